@@ -1,4 +1,5 @@
 pub mod HistoryLemmas
+pub mod LimitLemmas
 pub mod MarkLemmas
 pub mod OutboxLemmas
 pub mod RunLemmas

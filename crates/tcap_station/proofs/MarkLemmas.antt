@@ -1,9 +1,9 @@
 -- The outputs that wait, where an event comes or an output goes.
-use Rattle.std.proofs.Common.{◌≡◌, ℕ, zero, suc, ◌<◌, ◌≤◌, true, false, nat_eq, List, [], ◌∷◌, ◌++◌, length, take, drop, slice_index_or, Option, Some, None, refl, sym, ap, ◌∙◌, subst, arith, tests}
+use Rattle.std.proofs.Common.{◌≡◌, ℕ, zero, suc, ◌<◌, ◌≤◌, true, false, nat_eq, List, [], ◌∷◌, ◌++◌, length, take, drop, Option, Some, None, refl, sym, ap, ◌∙◌, subst, arith, tests}
 use Rattle.std.proofs.lemmas.List.{append-nil, length-append, append_assoc, drop-append-le, take-append-le, take_all, drop_all}
 use Rattle.std.specs.List.{slice_get}
 use Rattle.tcap_model.specs.Words.Output.{Output}
-use Rattle.tcap_station.specs.Marks.{AreMarked, less_one, marked, one_less, with_mark}
+use Rattle.tcap_station.specs.Marks.{AreMarked, less_one, marked, one_less, with_first, with_mark}
 use Rattle.tcap_station.specs.WaitingOutput.{WaitingOutput, numbered_outputs}
 use Rattle.tcap_station.specs.declared.line.marks.Mark.{Mark}
 
@@ -80,15 +80,10 @@ added-marked ms os told event n h is = go n told is ms os h
     go (suc n) told is ms os h = last n told is ms os h
 
 -- Where an output comes next, it is the first one, with the number of the first event.
-pub first-waits : (ms : List Mark) (os : List Output) (m : Mark) (o : Output) → AreMarked ms os
-    → m ≡ slice_index_or ms 0 m → Some o ≡ slice_get os 0
-    → Some (record { output = o; event = m.event; is_last = nat_eq m.left 1 }) ≡ slice_get (marked ms os) 0
-first-waits [] os m o h is first = let no : Some o ≡ slice_get [] 0 = first ∙ ap (λ (xs : List Output). slice_get xs 0) h in absurd cc
-first-waits (k ∷ ks) os m o h is first =
-    ap (λ (x : Mark). Some (record { output = o; event = x.event; is_last = nat_eq x.left 1 })) is ∙ sym (first-marked k ks os o h (sym first))
-
--- Where no output is left, none waits.
-pub none-waits : (ms : List Mark) (os : List Output) → AreMarked ms os → None ≡ slice_get os 0 → None ≡ slice_get (marked ms os) 0
-none-waits [] os h none = refl
-none-waits (m ∷ ms) [] h none = let some = h.0.some in let within = h.0.within in absurd (omega (arith, some, within))
-none-waits (m ∷ ms) (o ∷ os) h none = absurd cc
+pub first-waits : (first : Option Mark) (others : List Mark) (os : List Output) (m : Mark) (o : Output) → AreMarked (with_first first others) os
+    → first ≡ Some m → Some o ≡ slice_get os 0
+    → Some (record { output = o; event = m.event; is_last = nat_eq m.left 1 }) ≡ slice_get (marked (with_first first others) os) 0
+first-waits None others os m o h is next = absurd cc
+first-waits (Some k) others os m o h is next =
+    let same : m ≡ k = cc in
+    ap (λ (x : Mark). Some (record { output = o; event = x.event; is_last = nat_eq x.left 1 })) same ∙ sym (first-marked k others os o h (sym next))

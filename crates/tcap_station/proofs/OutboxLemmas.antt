@@ -11,10 +11,6 @@ taken-front n front back some = ap (λ os. os ++ back) (sym (drop-drop 1 n front
     go [] none = absurd (omega (arith, none))
     go (o ∷ os) some = refl
 
--- Where none is left in front and none behind, none is taken.
-pub taken-none : (n : ℕ) (front back : List Output) → length front ≤ n → (drop n front ≡ [] → back ≡ []) → drop n front ++ back ≡ drop 1 (drop n front ++ back)
-taken-none n front back all none = let e = drop_all n front all in rw (e, none e) refl
-
--- Where some are left in front, what is left isn't empty.
-pub some-left : (n : ℕ) (front : List Output) → n < length front → drop n front ≡ [] → ⊥
-some-left n front some none = omega (arith, some, length-drop n front, ap (λ (os : List Output). length os) none)
+-- Where one at most is left, and it is behind, none is left then.
+pub taken-last : (n : ℕ) (front back left : List Output) → front ≡ [] → left ≡ [] → length back ≤ 1 → drop n front ++ left ≡ drop 1 back
+taken-last n front back left none gone one = rw (none, gone, drop_all 1 back one) (ap (λ (os : List Output). os ++ []) (drop_all n [] (omega arith)))

@@ -1,9 +1,13 @@
 -- What waits, in two outboxes.
-use Rattle.std.specs.Prelude.{◌≤◌, List, ◌++◌, length, drop}
+use Rattle.std.specs.Prelude.{◌≡◌, ℕ, ◌≤◌, List, [], ◌++◌, length, drop}
 use Rattle.tcap_model.specs.Words.Output.{Output}
-use Rattle.tcap_station.specs.Marks.{AreMarked, marked}
+use Rattle.tcap_station.specs.Marks.{AreMarked, IsOrdered, marked, marks_in}
 use Rattle.tcap_station.specs.WaitingOutput.{WaitingOutput}
 use Rattle.tcap_station.specs.declared.line.Line.{Line}
+
+-- Of the outputs in front so many are taken; they are forgotten with the last of them (own).
+abbrev pub IsLeft : ℕ → List Output → Type 0
+IsLeft taken outputs = length outputs ≤ taken → outputs ≡ []
 
 module _ {A : Type 0} where
   -- The outputs that wait: those in front that aren't taken yet, then those behind (own).
@@ -12,8 +16,10 @@ module _ {A : Type 0} where
 
   -- The same, each with the number of its event (own).
   abbrev pub waiting_in : Line A → List WaitingOutput
-  waiting_in l = marked l.marks.items (line_outputs l)
+  waiting_in l = marked (marks_in l.marks) (line_outputs l)
 
-  -- The events have all outputs that wait, and no more were taken than stood in front (own).
-  abbrev pub IsInLine : Line A → Type 0
-  IsInLine l = AreMarked l.marks.items (line_outputs l) × (l.taken ≤ length l.front.outputs)
+  -- The events have all outputs that wait, in order, and the outputs in front are forgotten once they are taken (own).
+  pub record IsInLine (l : Line A) : Type 0 where
+    pub marked : AreMarked (marks_in l.marks) (line_outputs l)
+    pub ordered : IsOrdered l.marks
+    pub left : IsLeft l.taken l.front.outputs

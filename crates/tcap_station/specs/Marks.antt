@@ -1,8 +1,28 @@
 -- The events of which outputs wait: what private steps do to them.
-use Rattle.std.specs.Prelude.{◌≡◌, ℕ, ◌<◌, ◌≤◌, zero, suc, List, [], ◌∷◌, ◌++◌, length, take, drop}
+use Rattle.std.specs.Prelude.{◌≡◌, ◌⊎◌, ℕ, ◌<◌, ◌≤◌, zero, suc, List, [], ◌∷◌, ◌++◌, length, take, drop, Option, Some, None}
+use Rattle.std.specs.VecDeque.{deque_capacity, deque_len}
 use Rattle.tcap_model.specs.Words.Output.{Output}
 use Rattle.tcap_station.specs.WaitingOutput.{WaitingOutput, numbered_outputs}
 use Rattle.tcap_station.specs.declared.line.marks.Mark.{Mark}
+use Rattle.tcap_station.specs.declared.line.marks.Marks.{Marks}
+
+-- The first of them, and then the others (own).
+abbrev pub with_first : Option Mark → List Mark → List Mark
+with_first None others = []
+with_first (Some m) others = m ∷ others
+
+module _ {A : Type 0} where
+  -- The events of which outputs wait, in order (own).
+  abbrev pub marks_in : Marks A → List Mark
+  marks_in ms = with_first ms.first ms.others.items
+
+  -- There are others only where there is a first (own).
+  abbrev pub IsOrdered : Marks A → Type 0
+  IsOrdered ms = ms.first ≡ None → ms.others.items ≡ []
+
+  -- There is a place for an event more (own).
+  abbrev pub HasPlace : Marks A → Type 0
+  HasPlace ms = (ms.first ≡ None) ⊎ (deque_len ms.others < deque_capacity ms.others)
 
 -- The outputs that wait, where events have so many of them, one event after the other (own).
 abbrev pub marked : List Mark → List Output → List WaitingOutput

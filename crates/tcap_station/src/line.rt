@@ -4,17 +4,16 @@ pub(crate) mod accepting;
 pub(crate) mod marks;
 pub(crate) mod outboxes;
 
-ghost use Rattle.std.specs.Prelude.{◌≡◌, [], ◌≤◌, drop, slice_get, length};
+ghost use Rattle.std.specs.Prelude.{◌≡◌, [], drop, slice_get};
 ghost use Rattle.std.specs.Option.{option_map};
 ghost use Rattle.tcap_station.specs.Line.{IsInLine, waiting_in};
 ghost use Rattle.tcap_station.specs.WaitingOutput.{is_any};
 ghost use Rattle.tcap_station.specs.WaitingViews.{waiting_view};
 
 use crate::waiting::Waiting;
-use marks::{Mark, count_down};
+use marks::{Marks, count_down};
 use outboxes::{pass_first, read_first};
 use std::alloc::{Allocator, Global};
-use std::collections::VecDeque;
 use tcap_engine::Outbox;
 
 /// What waits. Of the outputs in front so many have been taken; those behind come after them.
@@ -24,7 +23,7 @@ pub(crate) struct Line<A: Allocator + Copy = Global> {
     pub(crate) taken: usize,
     pub(crate) back: Outbox<A>,
     /// The events of which outputs wait, in order.
-    pub(crate) marks: VecDeque<Mark, A>,
+    pub(crate) marks: Marks<A>,
 }
 
 impl<A: Allocator + Copy> Line<A> {
@@ -37,7 +36,7 @@ impl<A: Allocator + Copy> Line<A> {
             front: Outbox::new(alloc),
             taken: 0,
             back: Outbox::new(alloc),
-            marks: VecDeque::new(alloc),
+            marks: Marks::new(alloc),
         }
     }
 
@@ -47,7 +46,7 @@ impl<A: Allocator + Copy> Line<A> {
         requires { IsInLine self.now }
         ensures { option_map waiting_view result ≡ slice_get (waiting_in self.now) 0 }
     {
-        let mark = self.marks.front()?;
+        let mark = self.marks.first?;
         let output = read_first(&self.front, self.taken, &self.back)?;
         Some(Waiting {
             output,
@@ -64,7 +63,7 @@ impl<A: Allocator + Copy> Line<A> {
         ensures rest { waiting_in self.new ≡ drop 1 (waiting_in self.old) }
         ensures in_line { IsInLine self.new }
     {
-        if self.marks.is_empty() {
+        if self.marks.first.is_none() {
             return false;
         }
         count_down(&mut self.marks);

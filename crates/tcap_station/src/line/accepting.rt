@@ -1,14 +1,12 @@
 //! An event is accepted: it is counted, and what it sends and tells is marked with its number.
 
 ghost use Rattle.std.specs.Prelude.{◌≡◌, ◌<◌, ◌-◌, OnOk, OnErr, IsOk, length, Result};
-ghost use Rattle.std.specs.VecDeque.{deque_capacity, deque_len};
-ghost use Rattle.tcap_station.specs.Marks.{with_mark};
+ghost use Rattle.tcap_station.specs.Marks.{HasPlace, IsOrdered, marks_in, with_mark};
 ghost use Rattle.tcap_station.specs.Station.{following};
 
-use super::marks::{Mark, add_mark};
+use super::marks::{Marks, add_mark};
 use super::outboxes::count_since;
 use std::alloc::Allocator;
-use std::collections::VecDeque;
 use tcap_engine::Outbox;
 
 /// An event that sends and tells nothing is counted, if it was accepted.
@@ -27,18 +25,19 @@ pub(crate) fn count_event<T, E>(events: &mut u64, answer: Result<T, E>) -> Resul
 #[inline(always)]
 pub(crate) fn mark_event<A: Allocator + Copy, E>(
     events: &mut u64,
-    marks: &mut VecDeque<Mark, A>,
+    marks: &mut Marks<A>,
     outbox: &Outbox<A>,
     before: usize,
     answer: Result<(), E>,
 ) -> Result<(), E>
-    requires { OnOk answer (0 < length outbox.now.outputs - before
-        → deque_len marks.old < deque_capacity marks.old) }
+    requires place { OnOk answer (0 < length outbox.now.outputs - before → HasPlace marks.old) }
+    requires ordered { IsOrdered marks.old }
     ensures answer { result ≡ answer }
     ensures events { OnOk answer (events.new ≡ following events.old) }
-    ensures marks { OnOk answer (marks.new.items ≡ with_mark marks.old.items events.new
+    ensures marks { OnOk answer (marks_in marks.new ≡ with_mark (marks_in marks.old) events.new
         (length outbox.now.outputs - before)) }
-    ensures err { OnErr answer ((events.new ≡ events.old) × (marks.new.items ≡ marks.old.items)) }
+    ensures err { OnErr answer ((events.new ≡ events.old) × (marks_in marks.new ≡ marks_in marks.old)) }
+    ensures ordered { IsOrdered marks.new }
 {
     let answer = count_event(events, answer);
     if answer.is_ok() {

@@ -1,8 +1,9 @@
-//! The two outboxes: of one the outputs are taken, while the other is filled.
+//! The two outboxes: of the one in front the outputs are taken, while the one behind is filled.
 
-ghost use Rattle.std.specs.Prelude.{[], ◌≡◌, ◌≤◌, ◌-◌, ◌++◌, drop, length, slice_get};
+ghost use Rattle.std.specs.Prelude.{[], ◌≡◌, ◌<◌, ◌+◌, ◌-◌, ◌++◌, drop, length, slice_get};
 ghost use Rattle.std.specs.Option.{option_map};
 ghost use Rattle.tcap_primitives.specs.OutboxViews.{output_ref_view};
+ghost use Rattle.tcap_station.specs.Line.{IsLeft};
 
 use std::alloc::Allocator;
 use std::mem;
@@ -11,6 +12,24 @@ use tcap_engine::{Outbox, OutputRef};
 /// For how many outputs an outbox keeps its room at most once they are taken (our own).
 const KEPT_OUTPUTS: usize = 64;
 
+/// Where the output that comes next stands, if there is one: in which outbox, and at which index.
+#[inline(always)]
+fn place_of_first<'o, A: Allocator + Copy>(
+    front: &'o Outbox<A>,
+    taken: usize,
+    back: &'o Outbox<A>,
+) -> (&'o Outbox<A>, usize)
+    requires { IsLeft taken front.now.outputs }
+    ensures { slice_get result.0.now.outputs result.1
+        ≡ slice_get (drop taken front.now.outputs ++ back.now.outputs) 0 }
+{
+    if taken < front.len() {
+        (front, taken)
+    } else {
+        (back, 0)
+    }
+}
+
 /// The output that comes next.
 #[inline(always)]
 pub(crate) fn read_first<'o, A: Allocator + Copy>(
@@ -18,14 +37,12 @@ pub(crate) fn read_first<'o, A: Allocator + Copy>(
     taken: usize,
     back: &'o Outbox<A>,
 ) -> Option<OutputRef<'o>>
-    requires { taken ≤ length front.now.outputs }
+    requires { IsLeft taken front.now.outputs }
     ensures { option_map output_ref_view result
         ≡ slice_get (drop taken front.now.outputs ++ back.now.outputs) 0 }
 {
-    match front.get(taken) {
-        Some(output) => Some(output),
-        None => back.get(0),
-    }
+    let (outbox, index) = place_of_first(front, taken, back);
+    outbox.get(index)
 }
 
 /// How many outputs there are behind the first so many.
@@ -43,31 +60,44 @@ pub(crate) fn pass_first<A: Allocator + Copy>(
     taken: &mut usize,
     back: &mut Outbox<A>,
 )
-    requires { taken.old ≤ length front.old.outputs }
+    requires { IsLeft taken.old front.old.outputs }
     ensures rest { drop taken.new front.new.outputs ++ back.new.outputs
         ≡ drop 1 (drop taken.old front.old.outputs ++ back.old.outputs) }
-    ensures within { taken.new ≤ length front.new.outputs }
+    ensures left { IsLeft taken.new front.new.outputs }
 {
-    turn(front, taken, back);
     if *taken < front.len() {
-        *taken += 1;
+        pass_in_front(front, taken);
+    } else {
+        pass_behind(front, taken, back);
     }
-    turn(front, taken, back);
 }
 
-/// Where all outputs in front are taken, those behind come to the front.
+/// Takes the output that comes next, of which there is one in front.
 #[inline(always)]
-fn turn<A: Allocator + Copy>(front: &mut Outbox<A>, taken: &mut usize, back: &mut Outbox<A>)
-    requires { taken.old ≤ length front.old.outputs }
-    ensures same { drop taken.new front.new.outputs ++ back.new.outputs
-        ≡ drop taken.old front.old.outputs ++ back.old.outputs }
-    ensures within { taken.new ≤ length front.new.outputs }
-    ensures front { drop taken.new front.new.outputs ≡ [] → back.new.outputs ≡ [] }
+fn pass_in_front<A: Allocator + Copy>(front: &mut Outbox<A>, taken: &mut usize)
+    requires { taken.old < length front.old.outputs }
+    ensures rest { drop taken.new front.new.outputs ≡ drop (taken.old + 1) front.old.outputs }
+    ensures left { IsLeft taken.new front.new.outputs }
 {
-    if *taken == front.len() {
-        *taken = 0;
+    let count = front.len();
+    *taken += 1;
+    if *taken == count {
         clear(front);
+    }
+}
+
+/// Takes the output that comes next, where none is in front: the others behind come to the front, if there are any.
+#[inline(always)]
+fn pass_behind<A: Allocator + Copy>(front: &mut Outbox<A>, taken: &mut usize, back: &mut Outbox<A>)
+    requires { front.old.outputs ≡ [] }
+    ensures rest { drop taken.new front.new.outputs ++ back.new.outputs ≡ drop 1 back.old.outputs }
+    ensures left { IsLeft taken.new front.new.outputs }
+{
+    if back.len() > 1 {
         mem::swap(front, back);
+        *taken = 1;
+    } else {
+        back.clear();
     }
 }
 

@@ -1,7 +1,6 @@
 //! The requests of dialogue handling (Q.771, Dialogue handling).
 
 ghost use Rattle.std.specs.Prelude.{◌≡◌, ◌≢◌, ◌<◌, [], false, option_copied, IfErr, OnErr, OnOk};
-ghost use Rattle.std.specs.VecDeque.{deque_capacity, deque_len};
 ghost use Rattle.tcap_engine.specs.AnswerKinds.{AnswerKind, kind_of};
 ghost use Rattle.tcap_engine.specs.Running.{outputs_in};
 ghost use Rattle.tcap_model.specs.Table.EngineMove.{engine_move};
@@ -10,19 +9,20 @@ ghost use Rattle.tcap_model.specs.Words.Request as model;
 ghost use Rattle.tcap_model.specs.Words.Request.{DialogueRequest};
 ghost use Rattle.tcap_primitives.specs.FaultViews.{fault_view};
 ghost use Rattle.tcap_primitives.specs.RequestViews.{ending_view, reason_view, request_view};
+ghost use Rattle.tcap_station.specs.Marks.{HasPlace, IsOrdered, marks_in};
 ghost use Rattle.tcap_station.specs.HistoryForm.{StandsTold};
 ghost use Rattle.tcap_station.specs.Station.{is_above, sends_above};
 ghost use Rattle.tcap_station.specs.StepForm.{IsRefusalWithin, TakesWithin};
 
 use super::Station;
 use crate::line::accepting::mark_event;
-use crate::line::marks::{Mark, has_place, make_place};
+use crate::line::marks::{Marks, has_place, make_place};
 use std::alloc::Allocator;
-use std::collections::VecDeque;
 use tcap_engine::{
     AbortRequest, AbortWhy, Address, BeginRequest, ContinueRequest, EndRequest, Ending, Engine,
     Fault, Request, UniRequest,
 };
+use tcap_pdu::MAX_MESSAGE;
 
 /// In all of these `context` is the contents octets of the application context name, and `info` the user
 /// information: EXTERNALs one after the other, empty where there is none.
@@ -179,21 +179,26 @@ fn is_above(length: Option<usize>, max_message: usize) -> bool
 #[inline(always)]
 fn prepare<A: Allocator + Copy>(
     engine: &Engine<A>,
-    marks: &mut VecDeque<Mark, A>,
+    marks: &mut Marks<A>,
     max_message: usize,
     dialogue: u32,
     request: &Request<'_>,
 ) -> Result<(), Fault>
     requires { kind_of (request_view request.now) ≡ AnswerKind.outputs }
-    ensures items { marks.new.items ≡ marks.old.items }
+    ensures marks { marks_in marks.new ≡ marks_in marks.old }
+    ensures ordered { IsOrdered marks.old → IsOrdered marks.new }
     // A place is made where anything is sent or told.
     ensures place { let a = (engine_move engine.now (Event.on_dialogue dialogue (request_view request.now))).answer in
-        OnOk result (outputs_in a ≢ [] → deque_len marks.new < deque_capacity marks.new) }
+        OnOk result (outputs_in a ≢ [] → HasPlace marks.new) }
     ensures within { let a = (engine_move engine.now (Event.on_dialogue dialogue (request_view request.now))).answer in
         OnOk result (sends_above max_message a ≡ false) }
     ensures err { let a = (engine_move engine.now (Event.on_dialogue dialogue (request_view request.now))).answer in
         IfErr result (λ f. IsRefusalWithin max_message (fault_view f) a) }
 {
+    if max_message >= MAX_MESSAGE && has_place(marks) {
+        // No message of an engine is longer: it judges the request itself.
+        return Ok(());
+    }
     let length = engine.message_length(dialogue, request)?;
     if is_above(length, max_message) {
         return Err(Fault::TooLong);

@@ -1,21 +1,20 @@
 //! Events that are no request on a dialogue: bytes, moments, and dialogues that are created.
 
 ghost use Rattle.std.specs.Prelude.{◌≡◌, ◌≢◌, ◌<◌, [], IfErr, OnErr, OnOk};
-ghost use Rattle.std.specs.VecDeque.{deque_capacity, deque_len};
 ghost use Rattle.tcap_engine.specs.Running.{outputs_in};
 ghost use Rattle.tcap_engine.specs.StepForm.{birth_answer};
 ghost use Rattle.tcap_model.specs.Table.EngineMove.{engine_move};
 ghost use Rattle.tcap_model.specs.Words.Event.{Event};
 ghost use Rattle.tcap_primitives.specs.FaultViews.{fault_view};
+ghost use Rattle.tcap_station.specs.Marks.{HasPlace, IsOrdered, marks_in};
 ghost use Rattle.tcap_station.specs.HistoryForm.{StandsTaken, StandsTold};
 ghost use Rattle.tcap_station.specs.StepForm.{IsRefusal, Takes, TakesReceived, outputs_of};
 
 use super::Station;
 use crate::line::accepting::{count_event, mark_event};
-use crate::line::marks::{Mark, find_place, has_place, make_place};
+use crate::line::marks::{Marks, find_place, has_place, make_place};
 use ber_core::OutOfMemory;
 use std::alloc::Allocator;
-use std::collections::VecDeque;
 use tcap_engine::{Address, Engine, Fault};
 
 impl<A: Allocator + Copy> Station<A> {
@@ -77,12 +76,13 @@ impl<A: Allocator + Copy> Station<A> {
 #[inline(always)]
 fn prepare_moment<A: Allocator + Copy>(
     engine: &Engine<A>,
-    marks: &mut VecDeque<Mark, A>,
+    marks: &mut Marks<A>,
     now: u64,
 ) -> Result<(), Fault>
-    ensures items { marks.new.items ≡ marks.old.items }
+    ensures marks { marks_in marks.new ≡ marks_in marks.old }
+    ensures ordered { IsOrdered marks.old → IsOrdered marks.new }
     ensures place { let a = (engine_move engine.now (Event.moment now)).answer in
-        OnOk result (outputs_in a ≢ [] → deque_len marks.new < deque_capacity marks.new) }
+        OnOk result (outputs_in a ≢ [] → HasPlace marks.new) }
     ensures err { let a = (engine_move engine.now (Event.moment now)).answer in
         IfErr result (λ f. IsRefusal (fault_view f) a) }
 {

@@ -1,6 +1,7 @@
 use Rattle.std.proofs.Common.{ap, drop}
 use Rattle.tcap_model.specs.Table.EngineMove.{engine_move}
 use Rattle.tcap_model.specs.Words.Event.{Event}
+use Rattle.tcap_station.specs.Marks.{marks_in}
 use Rattle.tcap_station.specs.Station.{StationState}
 use Rattle.tcap_station.proofs.HistoryLemmas.{received-told, stands-received}
 use Rattle.tcap_station.proofs.TakeLemmas.{line-after, received}
@@ -8,24 +9,27 @@ use Rattle.tcap_station.proofs.station.Station.receive.Goals as goal
 
 pub invariant_of-self-2 : goal.invariant_of-self-2
 invariant_of-self-2 g c =
-    let line = c.self.inside.line in (
-      line-after c.receive_into-received.result line.marks.items c.find_place.new.marks.items c.mark_event.new.marks.items
+    let line = c.self.inside.line in
+    record {
+      marked =
+          line-after c.receive_into-received.result (marks_in line.marks) (marks_in c.find_place.new.marks) (marks_in c.mark_event.new.marks)
           (drop line.taken line.front.outputs) line.back.outputs c.receive_into-received.new.outbox.outputs
           c.self.inside.events c.mark_event.new.events c.len-before.result
-          c.find_place.ensures.items c.self.invariant.0 c.receive_into-received.ensures.kept c.receive_into-received.ensures.still
-          c.len-before.ensures c.mark_event.ensures.marks c.mark_event.ensures.err,
-      c.self.invariant.1,
-    )
+          c.find_place.ensures.marks c.self.invariant.marked c.receive_into-received.ensures.kept c.receive_into-received.ensures.still
+          c.len-before.ensures c.mark_event.ensures.marks c.mark_event.ensures.err;
+      ordered = c.mark_event.ensures.ordered;
+      left = c.self.invariant.left;
+    }
 
 pub returns-clause-moves : goal.returns-clause-moves
 returns-clause-moves g c =
     let line = c.self.inside.line in
     rw (← c.self.view_is) (
     received c.receive_into-received.result c.mark_event.result (engine_move c.self.inside.engine (Event.received c.args.from.now c.args.message.now))
-    c.self.inside.engine c.receive_into-received.new.self line.marks.items c.find_place.new.marks.items c.mark_event.new.marks.items
+    c.self.inside.engine c.receive_into-received.new.self (marks_in line.marks) (marks_in c.find_place.new.marks) (marks_in c.mark_event.new.marks)
     (drop line.taken line.front.outputs) line.back.outputs c.receive_into-received.new.outbox.outputs
     c.self.inside.events c.mark_event.new.events c.self.inside.max_message c.len-before.result
-    c.find_place.ensures.items c.self.invariant.0 c.receive_into-received.ensures.kept c.receive_into-received.ensures.still
+    c.find_place.ensures.marks c.self.invariant.marked c.receive_into-received.ensures.kept c.receive_into-received.ensures.still
     c.len-before.ensures c.receive_into-received.ensures.moves
     c.mark_event.ensures.answer c.mark_event.ensures.events c.mark_event.ensures.marks c.mark_event.ensures.err
     )

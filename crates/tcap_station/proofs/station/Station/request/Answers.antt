@@ -2,6 +2,7 @@ use Rattle.std.proofs.Common.{ap, drop}
 use Rattle.tcap_model.specs.Table.EngineMove.{engine_move}
 use Rattle.tcap_model.specs.Words.Event.{Event}
 use Rattle.tcap_primitives.specs.RequestViews.{request_view}
+use Rattle.tcap_station.specs.Marks.{marks_in}
 use Rattle.tcap_station.specs.Station.{StationState}
 use Rattle.tcap_station.proofs.HistoryLemmas.{stands-told, within-told}
 use Rattle.tcap_station.proofs.TakeLemmas.{line-after, told, told-within}
@@ -9,14 +10,17 @@ use Rattle.tcap_station.proofs.station.Station.request.Goals as goal
 
 pub invariant_of-self-2 : goal.invariant_of-self-2
 invariant_of-self-2 g c =
-    let line = c.self.inside.line in (
-      line-after c.request_into-accepted.result line.marks.items c.prepare.new.marks.items c.mark_event.new.marks.items
+    let line = c.self.inside.line in
+    record {
+      marked =
+          line-after c.request_into-accepted.result (marks_in line.marks) (marks_in c.prepare.new.marks) (marks_in c.mark_event.new.marks)
           (drop line.taken line.front.outputs) line.back.outputs c.request_into-accepted.new.outbox.outputs
           c.self.inside.events c.mark_event.new.events c.len-before.result
-          c.prepare.ensures.items c.self.invariant.0 c.request_into-accepted.ensures.kept c.request_into-accepted.ensures.still
-          c.len-before.ensures c.mark_event.ensures.marks c.mark_event.ensures.err,
-      c.self.invariant.1,
-    )
+          c.prepare.ensures.marks c.self.invariant.marked c.request_into-accepted.ensures.kept c.request_into-accepted.ensures.still
+          c.len-before.ensures c.mark_event.ensures.marks c.mark_event.ensures.err;
+      ordered = c.mark_event.ensures.ordered;
+      left = c.self.invariant.left;
+    }
 
 pub returns-clause-moves : goal.returns-clause-moves
 returns-clause-moves g c =
@@ -24,10 +28,10 @@ returns-clause-moves g c =
     rw (← c.self.view_is) (
     told-within c.mark_event.result _ _ _ (c.in_ok-prepare.ensures.within)
     (told c.request_into-accepted.result c.mark_event.result (engine_move c.self.inside.engine (Event.on_dialogue c.args.dialogue (request_view c.args.request.now)))
-    c.self.inside.engine c.request_into-accepted.new.self line.marks.items c.prepare.new.marks.items c.mark_event.new.marks.items
+    c.self.inside.engine c.request_into-accepted.new.self (marks_in line.marks) (marks_in c.prepare.new.marks) (marks_in c.mark_event.new.marks)
     (drop line.taken line.front.outputs) line.back.outputs c.request_into-accepted.new.outbox.outputs
     c.self.inside.events c.mark_event.new.events c.self.inside.max_message c.len-before.result
-    c.prepare.ensures.items c.self.invariant.0 c.request_into-accepted.ensures.kept c.request_into-accepted.ensures.still
+    c.prepare.ensures.marks c.self.invariant.marked c.request_into-accepted.ensures.kept c.request_into-accepted.ensures.still
     c.len-before.ensures c.request_into-accepted.ensures.moves c.request_into-accepted.ensures.err
     c.mark_event.ensures.answer c.mark_event.ensures.events c.mark_event.ensures.marks c.mark_event.ensures.err)
     )
