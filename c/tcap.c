@@ -120,13 +120,13 @@ static tcap_octets part(const uint8_t **at, size_t len) { return *at += len, (tc
 const tcap_output *tcap_next(tcap *t) {
   if (!t || tcap_c_next(&t->handle, &t->numbers, t->room, sizeof t->room)) return NULL;
   const tcap_c_out *c = &t->numbers;
-  const uint8_t *at = t->room;
   tcap_output *o = &t->output;
+  const uint8_t *at = t->room;
   o->event = c->event, o->number = c->number, o->dialogue = c->dialogue, o->invoke_id = c->invoke_id;
-  o->linked_id = c->linked_id, o->problem = c->problem, o->cause = c->cause, o->diagnostic = c->diagnostic;
-  o->kind = c->kind, o->pdu = c->pdu, o->closes = c->closes, o->is_last = c->is_last, o->is_version1 = c->is_version1;
-  o->code.kind = (tcap_code_kind)c->code_kind, o->has_context = c->has_context, o->has_parameter = c->has_parameter;
-  o->is_accepted = c->is_accepted, o->is_by_provider = c->is_by_provider, o->code.local = c->local;
+  o->linked_id = c->linked_id, o->problem = c->problem, o->cause = c->cause, o->diagnostic = c->diagnostic, o->kind = c->kind;
+  o->pdu = c->pdu, o->is_last = c->is_last, o->has_context = c->has_context, o->has_parameter = c->has_parameter;
+  o->is_version1 = c->is_version1, o->is_accepted = c->is_accepted, o->is_by_provider = c->is_by_provider;
+  o->code.kind = (tcap_code_kind)c->code_kind, o->code.local = c->local, o->closes = c->closes;
   o->address = part(&at, c->address_len), o->message = part(&at, c->message_len);
   o->portion.context = part(&at, c->context_len), o->portion.info = part(&at, c->info_len);
   o->code.global = part(&at, c->global_len), o->parameter = part(&at, c->parameter_len);

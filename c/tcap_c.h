@@ -25,18 +25,19 @@ enum {
   TCAP_C_ROOM_TOO_SMALL = 19, /* the octets of the output that comes next don't fit */
 };
 
-/* An output: its numbers, as tcap.h has them. Its octets stand at the front of the room, part after
- * part, in the order of the lengths. */
+/* An output: its numbers, as tcap.h has them and in its order, so that a compiler copies them in few moves. Its octets
+ * stand at the front of the room, part after part, in the order of the lengths. */
 typedef struct {
-  uint64_t number, event;
+  uint64_t event, number;
   size_t address_len, message_len, context_len, info_len, global_len, parameter_len;
   uint32_t dialogue;
-  int32_t local;
   int16_t invoke_id, linked_id;
   uint16_t problem, cause, diagnostic;
-  uint8_t kind, pdu, code_kind;
-  bool closes, is_last, has_dialogue, has_context, has_parameter;
-  bool is_version1, is_accepted, is_by_provider;
+  uint8_t kind, pdu;
+  bool closes, is_last, has_context, has_parameter, is_version1, is_accepted, is_by_provider;
+  uint8_t code_kind;
+  int32_t local;
+  bool has_dialogue;
 } tcap_c_out;
 
 /* A block of memory: whether it is given, and where; never NULL. */
@@ -52,7 +53,7 @@ _Static_assert(sizeof(tcap_c_handle) == 16 && sizeof(tcap_c_out) == 96, "the str
 _Static_assert(sizeof(rattle_block) == 16, "a block");
 TCAP_C_AT(tcap_c_handle, is_open, 8);
 TCAP_C_AT(rattle_block, at, 8);
-TCAP_C_AT(tcap_c_out, event, 8);
+TCAP_C_AT(tcap_c_out, number, 8);
 TCAP_C_AT(tcap_c_out, address_len, 16);
 TCAP_C_AT(tcap_c_out, message_len, 24);
 TCAP_C_AT(tcap_c_out, context_len, 32);
@@ -60,23 +61,23 @@ TCAP_C_AT(tcap_c_out, info_len, 40);
 TCAP_C_AT(tcap_c_out, global_len, 48);
 TCAP_C_AT(tcap_c_out, parameter_len, 56);
 TCAP_C_AT(tcap_c_out, dialogue, 64);
-TCAP_C_AT(tcap_c_out, local, 68);
-TCAP_C_AT(tcap_c_out, invoke_id, 72);
-TCAP_C_AT(tcap_c_out, linked_id, 74);
-TCAP_C_AT(tcap_c_out, problem, 76);
-TCAP_C_AT(tcap_c_out, cause, 78);
-TCAP_C_AT(tcap_c_out, diagnostic, 80);
-TCAP_C_AT(tcap_c_out, kind, 82);
-TCAP_C_AT(tcap_c_out, pdu, 83);
-TCAP_C_AT(tcap_c_out, code_kind, 84);
-TCAP_C_AT(tcap_c_out, closes, 85);
-TCAP_C_AT(tcap_c_out, is_last, 86);
-TCAP_C_AT(tcap_c_out, has_dialogue, 87);
-TCAP_C_AT(tcap_c_out, has_context, 88);
-TCAP_C_AT(tcap_c_out, has_parameter, 89);
-TCAP_C_AT(tcap_c_out, is_version1, 90);
-TCAP_C_AT(tcap_c_out, is_accepted, 91);
-TCAP_C_AT(tcap_c_out, is_by_provider, 92);
+TCAP_C_AT(tcap_c_out, invoke_id, 68);
+TCAP_C_AT(tcap_c_out, linked_id, 70);
+TCAP_C_AT(tcap_c_out, problem, 72);
+TCAP_C_AT(tcap_c_out, cause, 74);
+TCAP_C_AT(tcap_c_out, diagnostic, 76);
+TCAP_C_AT(tcap_c_out, kind, 78);
+TCAP_C_AT(tcap_c_out, pdu, 79);
+TCAP_C_AT(tcap_c_out, closes, 80);
+TCAP_C_AT(tcap_c_out, is_last, 81);
+TCAP_C_AT(tcap_c_out, has_context, 82);
+TCAP_C_AT(tcap_c_out, has_parameter, 83);
+TCAP_C_AT(tcap_c_out, is_version1, 84);
+TCAP_C_AT(tcap_c_out, is_accepted, 85);
+TCAP_C_AT(tcap_c_out, is_by_provider, 86);
+TCAP_C_AT(tcap_c_out, code_kind, 87);
+TCAP_C_AT(tcap_c_out, local, 88);
+TCAP_C_AT(tcap_c_out, has_dialogue, 92);
 
 /* ---- an engine is opened and closed */
 uint8_t tcap_c_open(tcap_c_handle *, uint32_t max_dialogues, uint32_t max_message,

@@ -2,9 +2,9 @@ pub mod Arguments
 pub mod Codec
 pub mod Handle
 pub mod Kinds
+pub mod Laying
 pub mod Numbers
 pub mod Opening
-pub mod PartViews
 pub mod Parts
 pub mod Reading
 pub mod ReadingBack

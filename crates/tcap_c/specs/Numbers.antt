@@ -23,11 +23,10 @@ no_lengths = record { address = 0; message = 0; context = 0; info = 0; global = 
 -- An output of this number, of which nothing else is said (own).
 abbrev pub bare_numbers : ℕ → OutputNumbers
 bare_numbers kind = record {
-  number = 0;
   event = 0;
+  number = 0;
   lengths = no_lengths;
   dialogue = 0;
-  local = pos 0;
   invoke_id = no_id;
   linked_id = no_id;
   problem = 0;
@@ -35,15 +34,16 @@ bare_numbers kind = record {
   diagnostic = 0;
   kind = kind;
   pdu = 0;
-  code_kind = 0;
   closes = false;
   is_last = false;
-  has_dialogue = false;
   has_context = false;
   has_parameter = false;
   is_version1 = false;
   is_accepted = false;
   is_by_provider = false;
+  code_kind = 0;
+  local = pos 0;
+  has_dialogue = false;
 }
 
 -- An output of this kind, of which nothing else is said (own).

@@ -16,6 +16,7 @@ use tcap_pdu::DialoguePdu;
 /// Each says a thing more of an output.
 impl OutputNumbers {
     /// It is of this dialogue.
+    #[inline(always)]
     pub(crate) fn of_dialogue(self, dialogue: u32) -> OutputNumbers
         ensures { result ≡ of_dialogue dialogue self }
     {
@@ -27,6 +28,7 @@ impl OutputNumbers {
     }
 
     /// It is of this dialogue, or of none.
+    #[inline(always)]
     pub(crate) fn of_dialogue_if_any(self, dialogue: Option<u32>) -> OutputNumbers
         ensures { result ≡ of_dialogue_if_any dialogue self }
     {
@@ -41,6 +43,7 @@ impl OutputNumbers {
     }
 
     /// It has a context, or none.
+    #[inline(always)]
     pub(crate) fn with_context(self, context: Option<&[u8]>) -> OutputNumbers
         ensures { result ≡ with_context (option_copied context.entry) self }
     {
@@ -51,6 +54,7 @@ impl OutputNumbers {
     }
 
     /// It has an invoke identifier, or none.
+    #[inline(always)]
     pub(crate) fn with_id(self, id: Option<i8>) -> OutputNumbers
         ensures { result ≡ with_id id self }
     {
@@ -61,6 +65,7 @@ impl OutputNumbers {
     }
 
     /// It has a linked identifier, or none.
+    #[inline(always)]
     pub(crate) fn with_linked(self, linked: Option<i8>) -> OutputNumbers
         ensures { result ≡ with_linked linked self }
     {
@@ -71,6 +76,7 @@ impl OutputNumbers {
     }
 
     /// It is of this invocation.
+    #[inline(always)]
     pub(crate) fn of_invocation(self, dialogue: u32, number: u64, id: i8) -> OutputNumbers
         ensures { result ≡ of_invocation dialogue number id self }
     {
@@ -79,6 +85,7 @@ impl OutputNumbers {
     }
 
     /// It closes this invocation.
+    #[inline(always)]
     pub(crate) fn closing(self, dialogue: u32, number: u64, id: i8) -> OutputNumbers
         ensures { result ≡ closing_of dialogue number id self }
     {
@@ -90,6 +97,7 @@ impl OutputNumbers {
     }
 
     /// It has a code.
+    #[inline(always)]
     pub(crate) fn with_code(self, code: Code<'_>) -> OutputNumbers
         ensures { result ≡ with_code (code_parts code.entry) self }
     {
@@ -107,6 +115,7 @@ impl OutputNumbers {
     }
 
     /// It has a parameter, or none.
+    #[inline(always)]
     pub(crate) fn with_parameter(self, parameter: Option<&[u8]>) -> OutputNumbers
         ensures { result ≡ with_parameter (option_copied parameter.entry) self }
     {
@@ -117,6 +126,7 @@ impl OutputNumbers {
     }
 
     /// It has the body of a result, or none.
+    #[inline(always)]
     pub(crate) fn with_body(self, body: Option<Body<'_>>) -> OutputNumbers
         ensures { result ≡ with_body (option_map body_parts body.entry) self }
     {
@@ -127,6 +137,7 @@ impl OutputNumbers {
     }
 
     /// It has a problem.
+    #[inline(always)]
     pub(crate) fn with_problem(self, problem: Problem) -> OutputNumbers
         ensures { result ≡ with_problem (problem_parts problem) self }
     {
@@ -137,6 +148,7 @@ impl OutputNumbers {
     }
 
     /// It has a dialogue PDU, or none.
+    #[inline(always)]
     pub(crate) fn with_pdu(self, pdu: Option<DialoguePdu<'_>>) -> OutputNumbers
         ensures { result ≡ with_pdu (option_map pdu_value pdu.entry) self }
     {
@@ -179,6 +191,7 @@ impl OutputNumbers {
     }
 
     /// It has a cause.
+    #[inline(always)]
     pub(crate) fn with_cause(self, cause: u16) -> OutputNumbers
         ensures { result ≡ with_cause cause self }
     {

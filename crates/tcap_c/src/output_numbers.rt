@@ -31,15 +31,13 @@ pub struct PartLengths {
 #[repr(C)]
 #[derive(Clone, Copy)]
 pub struct OutputNumbers {
-    /// The number of the invocation, that the TC-INVOKE request answered.
-    pub number: u64,
     /// The number of the event that it answers, from 1 on.
     pub event: u64,
+    /// The number of the invocation, that the TC-INVOKE request answered.
+    pub number: u64,
     pub lengths: PartLengths,
     /// The identifier of the dialogue.
     pub dialogue: u32,
-    /// A local operation or error code.
-    pub local: i32,
     /// Invoke identifier, -128 to 127.
     pub invoke_id: i16,
     /// Linked identifier, -128 to 127.
@@ -55,13 +53,10 @@ pub struct OutputNumbers {
     pub kind: u8,
     /// The dialogue PDU of a TC-U-ABORT: 0 none, 1 AARQ, 2 AUDT, 3 AARE, 4 ABRT, 5 an EXTERNAL of another syntax.
     pub pdu: u8,
-    /// 0: no code; 1: a local one; 2: a global one.
-    pub code_kind: u8,
     /// It closes the invocation.
     pub closes: bool,
     /// It is the last output of its event.
     pub is_last: bool,
-    pub has_dialogue: bool,
     pub has_context: bool,
     pub has_parameter: bool,
     /// Protocol version 1 is among the versions of the dialogue PDU.
@@ -70,19 +65,24 @@ pub struct OutputNumbers {
     pub is_accepted: bool,
     /// The ABRT is by the dialogue service provider.
     pub is_by_provider: bool,
+    /// 0: no code; 1: a local one; 2: a global one.
+    pub code_kind: u8,
+    /// A local operation or error code.
+    pub local: i32,
+    pub has_dialogue: bool,
 }
 
 impl OutputNumbers {
     /// An output of this kind, of which nothing else is said.
+    #[inline(always)]
     pub(crate) fn bare(kind: OutputKind) -> OutputNumbers
         ensures { result ≡ bare kind }
     {
         OutputNumbers {
-            number: 0,
             event: 0,
+            number: 0,
             lengths: PartLengths::none(),
             dialogue: 0,
-            local: 0,
             invoke_id: NO_ID,
             linked_id: NO_ID,
             problem: 0,
@@ -90,22 +90,24 @@ impl OutputNumbers {
             diagnostic: 0,
             kind: kind.number(),
             pdu: 0,
-            code_kind: 0,
             closes: false,
             is_last: false,
-            has_dialogue: false,
             has_context: false,
             has_parameter: false,
             is_version1: false,
             is_accepted: false,
             is_by_provider: false,
+            code_kind: 0,
+            local: 0,
+            has_dialogue: false,
         }
     }
 }
 
 impl PartLengths {
     /// No octets.
-    fn none() -> PartLengths
+    #[inline(always)]
+    pub(crate) fn none() -> PartLengths
         ensures { result ≡ no_lengths }
     {
         PartLengths {

@@ -12,6 +12,7 @@ use std::alloc::Global;
 use tcap_station::Station;
 
 /// Shows the output that comes next, if one waits and fits: the status. It stays where it waits.
+#[inline(always)]
 fn show_front(station: &Station<Global>, numbers: &mut OutputNumbers, room: &mut [u8]) -> Status
     ensures { IsFrontShown station.now.waiting result numbers.old numbers.new room.old room.new }
 {
