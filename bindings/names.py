@@ -64,7 +64,11 @@ def constants_of(module: str) -> dict[str, int]:
 
 def compare_layouts(layout: str) -> None:
     printed = subprocess.run([layout], capture_output=True, text=True, check=True).stdout.splitlines()
-    structs: tuple[tuple[str, type[ctypes.Structure]], ...] = (("tcap_output", _c.Output), ("tcap_limits", _c.Limits))
+    structs: tuple[tuple[str, type[ctypes.Structure]], ...] = (
+        ("tcap_output", _c.Output),
+        ("tcap_limits", _c.Limits),
+        ("tcap_ids", _c.Ids),
+    )
     for struct, kind in structs:
         lines = [f"{struct} {ctypes.sizeof(kind)}"]
         for name, *_ in kind._fields_:

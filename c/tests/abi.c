@@ -3,6 +3,7 @@
 #include <assert.h>
 
 #include "../../include/tcap.h"
+#include "../../include/tcap_codec.h"
 
 #define AT(type, field, place) static_assert(offsetof(type, field) == (place), #type " " #field)
 static_assert(sizeof(tcap_status) == 4 && sizeof(tcap_kind) == 4, "enumerations");
@@ -44,3 +45,10 @@ AT(tcap_output, has_parameter, 139);
 AT(tcap_output, is_version1, 140);
 AT(tcap_output, is_accepted, 141);
 AT(tcap_output, is_by_provider, 142);
+static_assert(sizeof(struct tcap_ids) == 10, "tcap_ids has no size of its own");
+#define IDS(field, place) static_assert(offsetof(struct tcap_ids, field) == (place), "tcap_ids " #field)
+IDS(origin, 0);
+IDS(destination, 4);
+IDS(origin_len, 8);
+IDS(destination_len, 9);
+static_assert(TCAP_ROOM_TOO_SMALL == 19, "stands beside the statuses of an engine");

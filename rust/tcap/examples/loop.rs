@@ -11,7 +11,7 @@ fn serve(engine: &mut Engine, now_ms: u64) -> Result<Vec<Vec<u8>>, Error> {
     while let Some(Waiting { engine, output, .. }) = engine.next_output() {
         match output {
             Output::Send { message, .. } => to_send.push(message.to_vec()),
-            Output::BeginInd { dialogue, portion } => println!("begin {} {:02x?}", dialogue, portion.context),
+            Output::BeginInd { dialogue, portion, .. } => println!("begin {} {:02x?}", dialogue, portion.context),
             Output::InvokeInd { dialogue: Some(dialogue), invoke_id, code: UPDATE_LOCATION, .. } => {
                 engine.result_l(dialogue, invoke_id, Some(UPDATE_LOCATION), Some(b"\x04\x01\xbb"))?; // while outputs wait
                 engine.end(now_ms, dialogue, Portion::of(NETWORK_LOC_UP))?;
