@@ -109,8 +109,8 @@ fn add_encoding<A: Allocator + Copy>(
     }
 }
 
-/// Adds what stands at the place.
-fn add_found<A: Allocator + Copy>(
+/// Adds the words for what stands at the place of a fault, by its rule.
+pub fn add_found<A: Allocator + Copy>(
     text: &mut String<A>,
     bytes: &[u8],
     place: usize,
@@ -179,8 +179,8 @@ fn tag_words(bytes: &[u8], place: usize, element: usize) -> &'static str
     }
 }
 
-/// Adds what was expected, by the rule.
-fn add_wanted<A: Allocator + Copy>(
+/// Adds the words for what was expected where a message has a fault.
+pub fn add_wanted<A: Allocator + Copy>(
     text: &mut String<A>,
     bytes: &[u8],
     found: Explained,
@@ -227,8 +227,8 @@ fn add_rule<A: Allocator + Copy>(
     add_found(text, bytes, found.place, found.rule)
 }
 
-/// Adds the words for a fault.
-fn add_explained<A: Allocator + Copy>(
+/// Adds the words for a fault of a message: its place, what was expected there, and what was found.
+pub fn add_explained<A: Allocator + Copy>(
     text: &mut String<A>,
     bytes: &[u8],
     found: Explained,

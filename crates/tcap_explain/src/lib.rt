@@ -20,5 +20,5 @@ mod words;
 
 pub use by_verdict::explain;
 pub use contents::Contents;
-pub use fault_text::explain_text;
+pub use fault_text::{add_explained, add_found, add_wanted, explain_text};
 pub use line::{ComponentLine, Explained, Line, ListLine, MessageLine, PduLine, PortionLine, Rule};
