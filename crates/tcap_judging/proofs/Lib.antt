@@ -1,0 +1,10 @@
+mod EntryLists
+mod Going
+mod GoodMessages
+mod LineCuts
+mod LineGoing
+mod Names
+mod Options
+mod Places
+mod StreamCuts
+mod StreamGoing

@@ -1,0 +1,10 @@
+use Rattle.std.proofs.Common.{rules, tests, ◌∙◌}
+use Rattle.std.proofs.lemmas.Iterator.{YieldsList-from_slice}
+use Rattle.std.proofs.lemmas.Iterator.Search.{position_from_yields_List}
+use Rattle.tcap_judging.proofs.Places.{place_is, place_within}
+use Rattle.tcap_judging.specs.LineParts.{is_unnamed}
+use Rattle.tcap_judging.proofs.line_parts.name_len.Goals as goal
+
+pub returns-clause-value : goal.returns-clause-value
+returns-clause-value c =
+    c.unwrap_or.ensures ∙ place_is is_unnamed c.args.octets.now c.position-unnamed.result (position_from_yields_List is_unnamed _ _ c.position-unnamed.result c.position-unnamed.ensures.ran (YieldsList-from_slice _ c.iter.ensures.rest) (λ x b q k. search (rules, tests))) (place_within is_unnamed c.args.octets.now)

@@ -1,0 +1,43 @@
+-- What is printed in JSON: an object in each line. No name, no word for a verdict, a rule or a bad line has a quotation
+-- mark or a backslash.
+use Rattle.std.specs.Prelude.{ℕ, List, ◌++◌, codes, Option, Some, None}
+use Rattle.std.specs.Fmt.{decimal}
+use Rattle.tcap_explain.specs.declared.line.Explained.{Explained}
+use Rattle.tcap_explain.specs.Explaining.{explained_at}
+use Rattle.tcap_explain.specs.ExplainText.{found_words, wanted_words}
+use Rattle.tcap_words.specs.Verdict.{verdict_of, verdict_words}
+use Rattle.tcap_judging.specs.declared.bad_line.BadLine.{BadLine}
+use Rattle.tcap_judging.specs.BadLine.{bad_words}
+use Rattle.tcap_judging.specs.Label.{Label, line, name, offset}
+
+-- What a message is called: the first member (own).
+abbrev pub json_label : Label → List ℕ
+json_label (name octets) = codes "{\"name\":\"" ++ (octets ++ codes "\"")
+json_label (line number) = codes "{\"line\":" ++ decimal number
+json_label (offset count) = codes "{\"offset\":" ++ decimal count
+
+-- The verdict (own).
+abbrev pub json_verdict : List ℕ → List ℕ
+json_verdict words = codes ",\"verdict\":\"" ++ (words ++ codes "\"")
+
+-- The place of a fault, and the first octet of its element (own).
+abbrev pub json_place : Explained → List ℕ
+json_place found = codes ",\"good\":false,\"place\":" ++ (decimal found.place ++ (codes ",\"element\":" ++ decimal found.element))
+
+-- What was expected there, and what was found (own).
+abbrev pub json_rule : List ℕ → Explained → List ℕ
+json_rule octets found = codes ",\"expected\":\"" ++ (wanted_words octets found found.rule ++ (codes "\",\"found\":\"" ++ (found_words octets found.place found.rule ++ codes "\"}\n")))
+
+-- Whether a message is good, and where it isn't the place of its fault, the first octet of its element, what was
+-- expected and what was found: the last members (own).
+abbrev pub json_fault : List ℕ → Option Explained → List ℕ
+json_fault octets None = codes ",\"good\":true}\n"
+json_fault octets (Some found) = json_place found ++ json_rule octets found
+
+-- The object of a message (own).
+abbrev pub json_text : Label → List ℕ → List ℕ
+json_text label octets = json_label label ++ (json_verdict (verdict_words (verdict_of octets)) ++ json_fault octets (explained_at octets))
+
+-- The object of a line that is neither blank nor a message (own).
+abbrev pub json_bad_text : ℕ → BadLine → List ℕ
+json_bad_text number why = codes "{\"line\":" ++ (decimal number ++ (codes ",\"bad\":\"" ++ (bad_words why ++ codes "\"}\n")))

@@ -1,0 +1,16 @@
+pub mod BadLine
+pub mod Command
+pub mod CommandLine
+pub mod Entry
+pub mod EntryText
+pub mod HelpText
+pub mod JsonText
+pub mod Label
+pub mod LineParts
+pub mod LineSteps
+pub mod LineViews
+pub mod Lines
+pub mod MarkedText
+pub mod Refusal
+pub mod Run
+pub mod StreamSteps

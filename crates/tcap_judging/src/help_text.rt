@@ -1,0 +1,18 @@
+//! What the command says of itself.
+
+ghost use Rattle.std.specs.Prelude.{◌≡◌};
+ghost use Rattle.tcap_judging.specs.HelpText.{help_text, version_text};
+
+/// The text of `--help`.
+pub(crate) fn help_text() -> &'static str
+    ensures { result.now ≡ help_text }
+{
+    "Usage: tcap_judge < LINES\n       tcap_judge --stream < MESSAGES\n\nJudges TCAP messages (ITU-T Q.773) on standard input, and prints a line for\neach: its name, the verdict, and where that is not good the octet at which the\nfault is, counted from 0, and what was expected there.\n\nA line is HEX or NAME HEX. A first word that ends in a colon, or that has other\ncharacters than hexadecimal digits and colons, is the name; else the message is\ncalled by the number of its line. Blanks and colons in HEX are passed over.\nWith --stream the messages stand one after the other as octets, and are called\nby the offset of their first octet.\n\n      --stream     reads messages as octets\n      --explain    shows the octets about a fault, with a mark below it\n      --json       prints an object of JSON in each line\n      --help       prints this\n      --version    prints the version\n\nThe status is 0 where all messages are good, 1 where one is not or a line is\nneither blank nor a message, 2 where the run came to no end.\n"
+}
+
+/// The text of `--version`.
+pub(crate) fn version_text() -> &'static str
+    ensures { result.now ≡ version_text }
+{
+    "tcap_judge 0.1.0\n"
+}

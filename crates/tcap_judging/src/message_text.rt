@@ -1,0 +1,128 @@
+//! The line of a message.
+
+ghost use Rattle.std.specs.Prelude.{◌≡◌, ◌++◌, IfOk, OnOk, string_bytes};
+ghost use Rattle.tcap_explain.specs.Explaining.{explained_at};
+ghost use Rattle.tcap_words.specs.Show.{show_is_good};
+ghost use Rattle.tcap_words.specs.Verdict.{verdict_of, verdict_words};
+ghost use Rattle.tcap_judging.specs.EntryText.{fault_words, message_words, plain_text, message_text};
+ghost use Rattle.tcap_judging.specs.MarkedText.{marked_text};
+ghost use Rattle.tcap_judging.specs.LineViews.{label_view};
+
+use crate::form::Form;
+use crate::json_text::add_object;
+use crate::label::{Label, add_label};
+use crate::marked_text::add_mark;
+use ber_core::OutOfMemory;
+use std::alloc::Allocator;
+use tcap_explain::{add_explained, explain};
+use tcap_words::{Verdict, add_decimal, verdict_on};
+
+/// Adds the words for the verdict on a message with a faulty component, by its number.
+fn add_component<A: Allocator + Copy>(
+    text: &mut String<A>,
+    number: usize,
+) -> Result<(), OutOfMemory>
+    ensures { OnOk result (string_bytes text.new ≡ string_bytes text.old ++ verdict_words (Verdict.Component number)) }
+{
+    text.push_str("fault component ")?;
+    add_decimal(text, number as u64)
+}
+
+/// Adds the words for a verdict.
+pub(crate) fn add_verdict<A: Allocator + Copy>(
+    text: &mut String<A>,
+    verdict: Verdict,
+) -> Result<(), OutOfMemory>
+    ensures { OnOk result (string_bytes text.new ≡ string_bytes text.old ++ verdict_words verdict) }
+{
+    match verdict {
+        Verdict::TooLong => Ok(text.push_str("fault too long")?),
+        Verdict::UnknownType => Ok(text.push_str("fault unknown type")?),
+        Verdict::BadlyFormatted => Ok(text.push_str("fault badly formatted")?),
+        Verdict::Incorrect => Ok(text.push_str("fault incorrect")?),
+        Verdict::Dialogue => Ok(text.push_str("fault dialogue")?),
+        Verdict::Component(number) => add_component(text, number),
+        Verdict::Good => Ok(text.push_str("good")?),
+    }
+}
+
+/// Adds the place of the fault of a message and its rule, if there is one. A good message isn't looked into again.
+fn add_fault<A: Allocator + Copy>(
+    text: &mut String<A>,
+    octets: &[u8],
+    good: bool,
+) -> Result<(), OutOfMemory>
+    requires { good ≡ show_is_good octets.now }
+    ensures { OnOk result (string_bytes text.new ≡ string_bytes text.old ++ fault_words octets.now (explained_at octets.now)) }
+{
+    if good {
+        return Ok(());
+    }
+    match explain(octets) {
+        Some(found) => {
+            text.push_str(" ")?;
+            add_explained(text, octets, found)
+        }
+        None => Ok(()),
+    }
+}
+
+/// Adds the words for a message, and tells whether it is good.
+fn add_words<A: Allocator + Copy>(text: &mut String<A>, octets: &[u8]) -> Result<bool, OutOfMemory>
+    ensures text { OnOk result (string_bytes text.new ≡ string_bytes text.old ++ message_words octets.now) }
+    ensures good { IfOk result (λ good. good ≡ show_is_good octets.now) }
+{
+    let verdict = verdict_on(octets);
+    let good = verdict.is_good();
+    add_verdict(text, verdict)?;
+    add_fault(text, octets, good)?;
+    Ok(good)
+}
+
+/// Adds the line of a message, and tells whether it is good.
+fn add_plain<A: Allocator + Copy>(
+    text: &mut String<A>,
+    called: Label<'_>,
+    octets: &[u8],
+) -> Result<bool, OutOfMemory>
+    ensures text { OnOk result (string_bytes text.new ≡ string_bytes text.old ++ plain_text (label_view called.entry) octets.now) }
+    ensures good { IfOk result (λ good. good ≡ show_is_good octets.now) }
+{
+    add_label(text, called)?;
+    text.push_str(" ")?;
+    let good = add_words(text, octets)?;
+    text.push_str("\n")?;
+    Ok(good)
+}
+
+/// The same, and below it the octets about the place of its fault, if it has one.
+fn add_marked<A: Allocator + Copy>(
+    text: &mut String<A>,
+    called: Label<'_>,
+    octets: &[u8],
+) -> Result<bool, OutOfMemory>
+    ensures text { OnOk result (string_bytes text.new ≡ string_bytes text.old
+        ++ (plain_text (label_view called.entry) octets.now ++ marked_text octets.now (explained_at octets.now))) }
+    ensures good { IfOk result (λ good. good ≡ show_is_good octets.now) }
+{
+    let good = add_plain(text, called, octets)?;
+    add_mark(text, octets, explain(octets))?;
+    Ok(good)
+}
+
+/// Adds what is printed for a message, and tells whether it is good.
+pub(crate) fn add_message<A: Allocator + Copy>(
+    form: Form,
+    text: &mut String<A>,
+    called: Label<'_>,
+    octets: &[u8],
+) -> Result<bool, OutOfMemory>
+    ensures text { OnOk result (string_bytes text.new ≡ string_bytes text.old ++ message_text form (label_view called.entry) octets.now) }
+    ensures good { IfOk result (λ good. good ≡ show_is_good octets.now) }
+{
+    match form {
+        Form::Plain => add_plain(text, called, octets),
+        Form::Marked => add_marked(text, called, octets),
+        Form::Json => add_object(text, called, octets),
+    }
+}
