@@ -1,0 +1,7 @@
+//! The tests of `tcap_judging`.
+
+mod devices;
+mod growths;
+mod long_lines;
+mod streams;
+mod words;

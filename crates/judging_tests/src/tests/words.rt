@@ -1,0 +1,149 @@
+//! The words of the command, its status, and what it tells.
+
+use std::alloc::Global;
+use std::test::Fail;
+use tcap_judging::run_judge;
+
+/// What a run of the command came to: its status, what it wrote, and what it told on standard error.
+#[derive(Drop)]
+pub(super) struct Ran {
+    status: u8,
+    written: Vec<u8>,
+    told: Vec<u8>,
+}
+
+impl Ran {
+    /// Whether it came to this.
+    pub(super) fn is(&self, status: u8, written: &[u8], told: &[u8]) -> bool {
+        self.status == status && self.written.as_slice() == written && self.told.as_slice() == told
+    }
+
+    /// Whether it came to this status, told nothing, and what it wrote begins so.
+    pub(super) fn begins(&self, status: u8, front: &[u8]) -> bool {
+        self.status == status && self.written.starts_with(front) && self.told.is_empty()
+    }
+}
+
+/// Runs the command over an input.
+pub(super) fn run(alloc: Global, words: &[&str], input: &[u8]) -> Ran {
+    let mut reader = input;
+    let mut written = Vec::new(alloc);
+    let mut told = Vec::new(alloc);
+    let status = run_judge(alloc, alloc, words, &mut reader, &mut written, &mut told);
+    Ran {
+        status,
+        written,
+        told,
+    }
+}
+
+/// What is told of words that are none of the command's.
+const BAD: &str = "tcap_judge: bad command, --help lists the options\n";
+
+/// The words, the status, the front of what is written, and what is told.
+const ROWS: &[(&[&str], u8, &str, &str)] = &[
+    (&[], 0, "1 good\n", ""),
+    (&["--stream"], 1, "", ""),
+    (
+        &["--json"],
+        0,
+        "{\"line\":1,\"verdict\":\"good\",\"good\":true}\n",
+        "",
+    ),
+    (&["--explain"], 0, "1 good\n", ""),
+    (
+        &["--stream", "--json"],
+        1,
+        "{\"offset\":0,\"verdict\":\"fault ",
+        "",
+    ),
+    (&["--version"], 0, "tcap_judge ", ""),
+    (&["--help"], 0, "Usage: tcap_judge ", ""),
+    (&["--help", "--version"], 0, "Usage: tcap_judge ", ""),
+    (&["--hexadecimal"], 2, "", BAD),
+    (&["lines"], 2, "", BAD),
+    (&["--version", "--version"], 2, "", BAD),
+    (&["-x"], 2, "", BAD),
+];
+
+#[test]
+fn words_of_the_command(rt: HostRuntime) -> Result<(), Fail> {
+    let alloc = rt.alloc();
+    for (words, status, front, told) in ROWS {
+        let ran = run(alloc, words, b"6203480107\n");
+        let is_so = if *status < 2 {
+            ran.begins(*status, front.as_bytes())
+        } else {
+            ran.is(*status, front.as_bytes(), told.as_bytes())
+        };
+        assert!(rt; is_so, "at {words:?}");
+    }
+    Ok(())
+}
+
+/// The input, the status, and what is written.
+const INPUTS: &[(&str, u8, &str)] = &[
+    ("", 0, ""),
+    ("\n\n \t\r\n", 0, ""),
+    ("m 6203480107", 0, "m good\n"),
+    ("m 6203480107\n\nn 6203480107\n", 0, "m good\nn good\n"),
+    (
+        "\n62034801\r\n",
+        1,
+        "2 fault badly formatted place 4 element 0: expected 1 more octet, found the end\n",
+    ),
+    (
+        "6203480107\nx\n",
+        1,
+        "1 good\nline 2 bad: no hexadecimal digits\n",
+    ),
+];
+
+#[test]
+fn lines_of_an_input(rt: HostRuntime) -> Result<(), Fail> {
+    let alloc = rt.alloc();
+    for (input, status, written) in INPUTS {
+        let ran = run(alloc, &[], input.as_bytes());
+        assert!(rt; ran.is(*status, written.as_bytes(), b""), "at {input:?}");
+    }
+    Ok(())
+}
+
+/// The option, the input, and what is written.
+const FORMS: &[(&str, &str, &str)] = &[
+    (
+        "--json",
+        "m 6207480500000000012\nm 620748050000000001\nzz\n",
+        "{\"line\":1,\"bad\":\"an odd number of hexadecimal digits\"}\n{\"name\":\"m\",\"verdict\":\"fault incorrect\",\"good\":false,\"place\":4,\"element\":2,\"expected\":\"a transaction identifier of 1 to 4 octets\",\"found\":\"5 octets from 0x00\"}\n{\"line\":3,\"bad\":\"no hexadecimal digits\"}\n",
+    ),
+    (
+        "--explain",
+        "m 620748050000000001\n",
+        "m fault incorrect place 4 element 2: expected a transaction identifier of 1 to 4 octets, found 5 octets from 0x00\n    62 07 48 05 00 00 00 00 01\n                ^^\n",
+    ),
+    // The place is the end.
+    (
+        "--explain",
+        "m 620348\n",
+        "m fault badly formatted place 3 element 0: expected 2 more octets, found the end\n    62 03 48\n             ^^\n",
+    ),
+    // Sixteen octets before the place, and sixteen behind its octet.
+    (
+        "--explain",
+        "m 04100102030405060708090a0b0c0d0e0f10aabbccddeeff000102030405060708090a0b0c0d0e0f\n",
+        "m fault badly formatted place 18 element 18: expected the end, found 0xaa\n    01 02 03 04 05 06 07 08 09 0a 0b 0c 0d 0e 0f 10 aa bb cc dd ee ff 00 01 02 03 04 05 06 07 08 09 0a\n                                                    ^^\n",
+    ),
+];
+
+#[test]
+fn forms_of_what_is_printed(rt: HostRuntime) -> Result<(), Fail> {
+    let alloc = rt.alloc();
+    for (option, input, written) in FORMS {
+        let ran = run(alloc, &[option], input.as_bytes());
+        assert!(rt;
+            ran.is(1, written.as_bytes(), b""),
+            "at {option}, {input:?}"
+        );
+    }
+    Ok(())
+}
