@@ -21,6 +21,8 @@ mod script;
 mod side;
 mod station;
 
+pub use numbers::{number, signed};
+pub use pieces::first_piece;
 pub use play::play_text;
 pub use run::run_play;
 pub use tcap_text::{PlayFault, run_stream};

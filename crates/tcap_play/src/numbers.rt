@@ -23,7 +23,7 @@ fn with_digit(n: u64, octet: u8) -> Option<u64>
 
 /// The number that a word writes, up to the largest of 64 bits. Its octets are digits as they are read, so
 /// they needn't be text first.
-pub(crate) fn number(word: &[u8]) -> Option<u64>
+pub fn number(word: &[u8]) -> Option<u64>
     ensures { result ≡ number_up_to 18446744073709551615 word.now }
 {
     if word.is_empty() || is_padded(word) {
@@ -55,7 +55,7 @@ fn below_zero(n: u64) -> Option<i32>
 }
 
 /// The number that a word writes, with `-` before one below zero, in the range of 32 bits.
-pub(crate) fn signed(word: &[u8]) -> Option<i32>
+pub fn signed(word: &[u8]) -> Option<i32>
     ensures { result ≡ number_between (neg_ℤ (pos 2147483648)) (pos 2147483647) word.now }
 {
     match word {

@@ -4,7 +4,7 @@ ghost use Rattle.std.specs.Prelude.{◌≡◌, ◌∷◌, [], length, ◌<◌, I
 ghost use Rattle.tcap_play.specs.Pieces.{is_skipped, pieces};
 
 /// The octets before the first mark, and those behind it, None where there is none.
-pub(crate) fn first_piece(octets: &[u8], mark: u8) -> (&[u8], Option<&[u8]>)
+pub fn first_piece(octets: &[u8], mark: u8) -> (&[u8], Option<&[u8]>)
     ensures cut { MatchOption result.1
         (pieces mark octets.now ≡ result.0.now ∷ [])
         (λ rest. pieces mark octets.now ≡ result.0.now ∷ pieces mark rest.now) }

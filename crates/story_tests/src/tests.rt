@@ -1,0 +1,3 @@
+//! What is told of lines with a mistake, row by row.
+
+mod lines;
