@@ -9,15 +9,15 @@ use Rattle.tcap_lines.specs.Table.{LineTable, Wanted, is_listed, wanted_words}
 
 -- What is wrong with a word, behind this one, of which this is wanted; nothing where it is that (own).
 abbrev pub judged : List ℕ → Wanted → List ℕ → Option WordFault
-judged before (Wanted.name names) word =
+judged before (Wanted.any_of names) word =
     if is_listed names word then None else Some (or_else (unwritten word) fault.Name)
-judged before (Wanted.is expected) word =
+judged before (Wanted.what expected) word =
     if fits expected before word then None else Some (or_else (unwritten word) (told expected before word))
 
 -- That a word is missing (own).
 abbrev pub missing : Wanted → WordFault
-missing (Wanted.name names) = fault.NoName
-missing (Wanted.is expected) = fault.Missing expected
+missing (Wanted.any_of names) = fault.NoName
+missing (Wanted.what expected) = fault.Missing expected
 
 -- That a word is one too many (own).
 abbrev pub surplus : List ℕ → WordFault

@@ -19,15 +19,19 @@ abbrev pub or_else : Option WordFault → WordFault → WordFault
 or_else None other = other
 or_else (Some found) other = found
 
--- Whether digits have a zero before them: a zero is the first, and more follow (own).
+-- Whether a zero stands before more (own).
 abbrev pub begins_with_zero : List ℕ → Bool
 begins_with_zero [] = false
-begins_with_zero (first ∷ rest) = first == 48 && (nat_lt 0 (length rest) && list_all is_ascii_digit rest)
+begins_with_zero (first ∷ rest) = first == 48 && nat_lt 0 (length rest)
+
+-- Whether a word is digits with a zero before them (own).
+abbrev pub are_padded : List ℕ → Bool
+are_padded word = begins_with_zero word && list_all is_ascii_digit word
 
 -- Whether a word is a number with zeros before it; `-` may stand before them (own).
 abbrev pub is_led_by_zeros : List ℕ → Bool
 is_led_by_zeros [] = false
-is_led_by_zeros (first ∷ rest) = if first == 45 then begins_with_zero rest else begins_with_zero (first ∷ rest)
+is_led_by_zeros (first ∷ rest) = if first == 45 then are_padded rest else are_padded (first ∷ rest)
 
 -- Whether a word is an odd number of hexadecimal digits (own).
 abbrev pub is_odd : List ℕ → Bool

@@ -1,6 +1,6 @@
 -- Forms of lines, and what they want of a line's words.
-use Rattle.std.specs.Prelude.{ℕ, Bool, List, [], ◌∷◌, ◌++◌, map, bytes_eq, list_any, Option, Some, None, option_map, if◌then◌else◌}
-use Rattle.std.specs.List.{find}
+use Rattle.std.specs.Prelude.{ℕ, Bool, List, [], ◌∷◌, ◌++◌, map, bytes_eq, Option, Some, None, option_map, if◌then◌else◌}
+use Rattle.std.specs.List.{find, list_any}
 use Rattle.tcap_lines.specs.declared.expected.Expected.{Expected}
 
 -- A form: its name, and what the words behind it have to be (own).
@@ -17,8 +17,8 @@ pub record LineTable : Type 0 where
 
 -- What a word of a line has to be: one of these names, or what a form says (own).
 pub data Wanted : Type 0 where
-  name : (names : List (List ℕ)) → Wanted
-  is : (expected : Expected) → Wanted
+  any_of : (names : List (List ℕ)) → Wanted
+  what : (expected : Expected) → Wanted
 
 -- Whether a word is one of these (own).
 abbrev pub is_listed : List (List ℕ) → List ℕ → Bool
@@ -35,12 +35,12 @@ words_named name forms = option_map (λ form. form.words) (find (λ form. bytes_
 -- What is wanted behind a name: what its form says, nothing where it has none (own).
 abbrev pub wanted_behind : Option (List Expected) → List Wanted
 wanted_behind None = []
-wanted_behind (Some words) = map (λ expected. Wanted.is expected) words
+wanted_behind (Some words) = map (λ expected. Wanted.what expected) words
 
 -- What is wanted of words that begin with a name of these forms (own).
 abbrev pub wanted_by_name : List FormWords → List (List ℕ) → List Wanted
-wanted_by_name forms [] = Wanted.name (names_of forms) ∷ []
-wanted_by_name forms (name ∷ words) = Wanted.name (names_of forms) ∷ wanted_behind (words_named name forms)
+wanted_by_name forms [] = Wanted.any_of (names_of forms) ∷ []
+wanted_by_name forms (name ∷ words) = Wanted.any_of (names_of forms) ∷ wanted_behind (words_named name forms)
 
 -- What is wanted of the words behind the first: where that is a side, the name of a form and its words; else the
 -- words of its own form (own).
@@ -51,6 +51,6 @@ wanted_behind_first table first words =
 
 -- What the words of a line have to be (own).
 abbrev pub wanted_words : LineTable → List (List ℕ) → List Wanted
-wanted_words table [] = Wanted.name (table.sides ++ names_of table.alone) ∷ []
+wanted_words table [] = Wanted.any_of (table.sides ++ names_of table.alone) ∷ []
 wanted_words table (first ∷ words) =
-    Wanted.name (table.sides ++ names_of table.alone) ∷ wanted_behind_first table first words
+    Wanted.any_of (table.sides ++ names_of table.alone) ∷ wanted_behind_first table first words

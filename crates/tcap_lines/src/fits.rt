@@ -1,6 +1,6 @@
 //! Whether a word is what it has to be.
 
-ghost use Rattle.std.specs.Prelude.{◌≡◌};
+ghost use Rattle.std.specs.Prelude.{◌≡◌, ◌&&◌, bytes_eq, int_le};
 ghost use Rattle.tcap_lines.specs.Fits.{fits, is_dash, is_octets, is_address, is_dotted, is_number_within, is_signed_within, is_problem_kind, is_abort_reason, is_message};
 ghost use Rattle.tcap_lines.specs.declared.expected.Expected.{Expected as Wanted};
 
@@ -22,12 +22,19 @@ fn is_number_within(least: u64, most: u64, word: &[u8]) -> bool
     }
 }
 
+/// Whether a number is no less and no more than so much.
+fn is_between(least: i32, most: i32, n: i32) -> bool
+    ensures { result ≡ (int_le least n && int_le n most) }
+{
+    least <= n && n <= most
+}
+
 /// Whether the word is a number of this range, with `-` before one below zero.
 fn is_signed_within(least: i32, most: i32, word: &[u8]) -> bool
     ensures { result ≡ is_signed_within least most word.now }
 {
     match signed(word) {
-        Some(n) => least <= n && n <= most,
+        Some(n) => is_between(least, most, n),
         None => false,
     }
 }
@@ -77,6 +84,27 @@ fn is_message(word: &[u8]) -> bool
     }
 }
 
+/// Whether the word is this one.
+fn is(word: &[u8], name: &str) -> bool
+    ensures { result ≡ bytes_eq word.now name.now }
+{
+    word == name.as_bytes()
+}
+
+/// Whether the word is the kind of a problem.
+fn is_problem_kind(word: &[u8]) -> bool
+    ensures { result ≡ is_problem_kind word.now }
+{
+    is(word, "general") || is(word, "invoke") || is(word, "result") || is(word, "error")
+}
+
+/// Whether the word says why a user aborts.
+fn is_abort_reason(word: &[u8]) -> bool
+    ensures { result ≡ is_abort_reason word.now }
+{
+    is(word, "user") || is(word, "unsupported")
+}
+
 /// Whether a word, behind this one, is what it has to be.
 pub(crate) fn fits(expected: Expected, before: &[u8], word: &[u8]) -> bool
     ensures { result ≡ fits expected before.now word.now }
@@ -91,8 +119,8 @@ pub(crate) fn fits(expected: Expected, before: &[u8], word: &[u8]) -> bool
         Expected::OctetsBehindCode => is_dash(word) || (!is_dash(before) && is_octets(word)),
         Expected::Address => is_address(word),
         Expected::DottedContext => is_octets(word) || is_dotted(word),
-        Expected::ProblemKind => matches!(word, b"general" | b"invoke" | b"result" | b"error"),
-        Expected::AbortReason => matches!(word, b"user" | b"unsupported"),
+        Expected::ProblemKind => is_problem_kind(word),
+        Expected::AbortReason => is_abort_reason(word),
         Expected::Message => is_message(word),
     }
 }

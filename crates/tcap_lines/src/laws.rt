@@ -1,6 +1,6 @@
 //! Laws of what is wrong with a line.
 
-ghost use Rattle.std.specs.Prelude.{◌≡◌, ◌⊎◌, ⊥, ℕ, List};
+ghost use Rattle.std.specs.Prelude.{◌≡◌, ◌⊎◌, ℕ, List};
 ghost use Rattle.tcap_lines.specs.LineFaults.{IsFirstFault, IsGoodLine};
 ghost use Rattle.tcap_lines.specs.Table.{LineTable};
 ghost use Rattle.tcap_lines.specs.declared.fault.LineFault.{LineFault as Found};

@@ -7,7 +7,7 @@
 
 mod expected;
 mod fault;
-mod fault_name;
+mod fault_names;
 mod fault_text;
 mod fits;
 pub mod laws;
@@ -17,7 +17,7 @@ mod table;
 
 pub use expected::Expected;
 pub use fault::{LineFault, WordFault};
-pub use fault_name::fault_name;
+pub use fault_names::fault_name;
 pub use fault_text::{add_expected, add_line_fault};
 pub use reading::line_fault;
 pub use table::{Form, Table};

@@ -1,9 +1,11 @@
 //! What is told of a word that isn't what it has to be.
 
-ghost use Rattle.std.specs.Prelude.{◌≡◌};
+ghost use Rattle.std.specs.Prelude.{◌≡◌, ◌↔◌, IsTrue};
+ghost use Rattle.std.specs.Char.{is_ascii_digit, is_ascii_hexdigit};
+ghost use Rattle.std.specs.List.{AllPass};
 ghost use Rattle.tcap_lines.specs.declared.fault.WordFault.TheVariants as fault;
 ghost use Rattle.tcap_lines.specs.LineFaults.{surplus};
-ghost use Rattle.tcap_lines.specs.Misfit.{begins_with_zero, is_led_by_zeros, is_odd, or_else, told, told_of_number, told_of_octets, unwritten};
+ghost use Rattle.tcap_lines.specs.Misfit.{are_padded, begins_with_zero, is_led_by_zeros, is_odd, or_else, told, told_of_number, told_of_octets, unwritten};
 
 use crate::expected::Expected;
 use crate::fault::WordFault;
@@ -24,15 +26,41 @@ fn unwritten(word: &[u8]) -> Option<WordFault>
     None
 }
 
+/// Whether all octets are decimal digits.
+fn are_digits(word: &[u8]) -> bool
+    ensures { IsTrue result ↔ AllPass is_ascii_digit word.now }
+{
+    word.iter().all(|octet| octet.is_ascii_digit())
+}
+
+/// Whether all octets are hexadecimal digits.
+fn are_hexadecimal(word: &[u8]) -> bool
+    ensures { IsTrue result ↔ AllPass is_ascii_hexdigit word.now }
+{
+    word.iter().all(|octet| octet.is_ascii_hexdigit())
+}
+
+/// Whether a zero stands before more.
+fn begins_with_zero(word: &[u8]) -> bool
+    ensures { result ≡ begins_with_zero word.now }
+{
+    matches!(word, [b'0', _, ..])
+}
+
+/// Whether the word is digits with a zero before them.
+fn are_padded(word: &[u8]) -> bool
+    ensures { result ≡ are_padded word.now }
+{
+    begins_with_zero(word) && are_digits(word)
+}
+
 /// Whether the word is a number with zeros before it.
 fn is_led_by_zeros(word: &[u8]) -> bool
     ensures { result ≡ is_led_by_zeros word.now }
 {
-    match word {
-        [b'-', b'0', digits @ ..] | [b'0', digits @ ..] => {
-            !digits.is_empty() && digits.iter().all(|digit| digit.is_ascii_digit())
-        }
-        _ => false,
+    match word.split_at_checked(1) {
+        Some((b"-", digits)) => are_padded(digits),
+        _ => are_padded(word),
     }
 }
 
@@ -40,7 +68,7 @@ fn is_led_by_zeros(word: &[u8]) -> bool
 fn is_odd(word: &[u8]) -> bool
     ensures { result ≡ is_odd word.now }
 {
-    word.len() % 2 == 1 && word.iter().all(|digit| digit.is_ascii_hexdigit())
+    word.len() % 2 == 1 && are_hexadecimal(word)
 }
 
 /// What is told where a number is expected.

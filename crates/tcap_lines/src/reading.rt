@@ -1,10 +1,10 @@
 //! A line held against a table.
 
-ghost use Rattle.std.specs.Prelude.{◌≡◌, ◌+◌, ◌≤◌, ℕ, List, [], ◌∷◌, option_map, map, IfSome, IfNone, IsSomeAnd};
+ghost use Rattle.std.specs.Prelude.{◌≡◌, ◌+◌, ◌≤◌, ℕ, List, [], ◌∷◌, option_map, map, IfSome, IfNone, IsNone, IsSomeAnd};
 ghost use Rattle.tcap_play.specs.Pieces.{left, pieces_left, words_of};
 ghost use Rattle.tcap_lines.specs.LineFaults.{IsFirstFault, IsGoodLine, judged};
 ghost use Rattle.tcap_lines.specs.Reading.{first_fault, walk};
-ghost use Rattle.tcap_lines.specs.Table.{Wanted, wanted_behind, wanted_by_name, words_named};
+ghost use Rattle.tcap_lines.specs.Table.{Wanted, is_listed, names_of, wanted_behind, wanted_by_name, words_named};
 ghost use Rattle.tcap_lines.specs.TableViews.{forms_view, table_view};
 ghost use Rattle.tcap_lines.specs.declared.fault.LineFault.{LineFault as Found};
 
@@ -17,7 +17,7 @@ use tcap_play::first_piece;
 
 /// What is wrong with a word of which this is expected, behind that one, if anything.
 fn judged(expected: Expected, before: &[u8], word: &[u8]) -> Option<WordFault>
-    ensures { result ≡ judged before.now (Wanted.is expected) word.now }
+    ensures { result ≡ judged before.now (Wanted.what expected) word.now }
 {
     if fits(expected, before, word) {
         None
@@ -28,7 +28,7 @@ fn judged(expected: Expected, before: &[u8], word: &[u8]) -> Option<WordFault>
 
 /// What is wrong where nothing more is expected, if something more is there.
 fn end_fault(number: usize, rest: Option<&[u8]>) -> Option<LineFault>
-    ensures { (before : List ℕ) → result ≡ walk number before [] (pieces_left 32 rest) }
+    ensures { (before : List ℕ) → result ≡ walk number before [] (pieces_left 32 rest.entry) }
 {
     let (word, _) = first_piece(rest?, b' ');
     Some(LineFault {
@@ -45,7 +45,7 @@ fn words_fault(
     rest: Option<&[u8]>,
 ) -> Option<LineFault>
     requires { number + left rest ≤ 18446744073709551615 }
-    ensures { result ≡ walk number before.now (map (λ expected. Wanted.is expected) words.now) (pieces_left 32 rest) }
+    ensures { result ≡ walk number before.now (map (λ expected. Wanted.what expected) words.now) (pieces_left 32 rest.entry) }
 {
     let mut number = number;
     let mut before = before;
@@ -77,7 +77,11 @@ fn form_fault(
     forms: &[Form<'_>],
     name: &[u8],
     rest: Option<&[u8]>,
-) -> Option<LineFault> {
+) -> Option<LineFault>
+    requires { number + left rest ≤ 18446744073709551614 }
+    ensures { (before : List ℕ) (names : List (List ℕ)) → is_listed names name.now ≡ is_listed (names_of (forms_view forms.now)) name.now
+        → result ≡ walk number before (Wanted.any_of names ∷ wanted_behind (words_named name.now (forms_view forms.now))) (name.now ∷ pieces_left 32 rest.entry) }
+{
     match words_named(forms, name) {
         Some(words) => words_fault(number + 1, name, words, rest),
         None => Some(LineFault {
@@ -88,7 +92,10 @@ fn form_fault(
 }
 
 /// What is wrong first behind a side, if anything.
-fn side_fault(forms: &[Form<'_>], rest: Option<&[u8]>) -> Option<LineFault> {
+fn side_fault(forms: &[Form<'_>], rest: Option<&[u8]>) -> Option<LineFault>
+    requires { 2 + left rest ≤ 18446744073709551615 }
+    ensures { (before : List ℕ) → result ≡ walk 2 before (wanted_by_name (forms_view forms.now) (pieces_left 32 rest.entry)) (pieces_left 32 rest.entry) }
+{
     let Some(octets) = rest else {
         return Some(LineFault {
             word: 2,
@@ -97,6 +104,18 @@ fn side_fault(forms: &[Form<'_>], rest: Option<&[u8]>) -> Option<LineFault> {
     };
     let (name, more) = first_piece(octets, b' ');
     form_fault(2, forms, name, more)
+}
+
+/// What is wrong first with a line, if anything.
+fn first_fault(table: &Table<'_>, line: &[u8]) -> Option<LineFault>
+    ensures { result ≡ first_fault (table_view table.now) (words_of line.now) }
+{
+    let (first, rest) = first_piece(line, b' ');
+    if is_listed(table.sides, first) {
+        side_fault(table.on_side, rest)
+    } else {
+        form_fault(1, table.alone, first, rest)
+    }
 }
 
 /// What is wrong with a line, if anything: the first of its words that isn't what the forms of the table say, by
@@ -120,10 +139,5 @@ pub fn line_fault(table: &Table<'_>, line: &[u8]) -> Option<LineFault>
     // The same, computed.
     ensures exact { result ≡ first_fault (table_view table.now) (words_of line.now) }
 {
-    let (first, rest) = first_piece(line, b' ');
-    if is_listed(table.sides, first) {
-        side_fault(table.on_side, rest)
-    } else {
-        form_fault(1, table.alone, first, rest)
-    }
+    first_fault(table, line)
 }

@@ -1,7 +1,8 @@
 //! Forms of lines.
 
-ghost use Rattle.std.specs.Prelude.{◌≡◌, bytes_eq, list_any, option_map, map};
-ghost use Rattle.tcap_lines.specs.Table.{words_named, is_side};
+ghost use Rattle.std.specs.Prelude.{◌≡◌, bytes_eq, option_map, map};
+ghost use Rattle.std.specs.List.{list_any};
+ghost use Rattle.tcap_lines.specs.Table.{words_named};
 ghost use Rattle.tcap_lines.specs.TableViews.{forms_view};
 
 use crate::expected::Expected;
@@ -30,7 +31,12 @@ pub struct Table<'t> {
 pub(crate) fn is_listed(words: &[&str], word: &[u8]) -> bool
     ensures { result ≡ list_any (bytes_eq word.now) (map (λ w. w.now) words.now) }
 {
-    words.iter().any(|listed| word == listed.as_bytes())
+    for listed in words {
+        if word == listed.as_bytes() {
+            return true;
+        }
+    }
+    false
 }
 
 /// What the words behind a name have to be, by the first form of this name, None where there is none.

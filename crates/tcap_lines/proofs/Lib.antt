@@ -1,0 +1,3 @@
+mod FitsLemmas
+mod TableLemmas
+mod WalkLemmas
