@@ -13,11 +13,11 @@ pub mod laws;
 mod message;
 mod numbers;
 mod opening;
-mod output_text;
-mod pieces;
+pub mod output_text;
+pub mod pieces;
 mod play;
 mod run;
-mod script;
+pub mod script;
 mod side;
 mod station;
 

@@ -11,9 +11,9 @@ ghost use Rattle.tcap_play.specs.SideView.{side_view};
 
 use crate::side::Side;
 use ber_core::OutOfMemory;
-use closings::add_closing;
-use components::add_component;
-use dialogues::add_dialogue;
+pub use closings::add_closing;
+pub use components::add_component;
+pub use dialogues::add_dialogue;
 use itoa::Buffer;
 use std::alloc::Allocator;
 use tcap_engine::{Address, DropWhy, Output};
@@ -54,7 +54,7 @@ fn add_send<A: Allocator + Copy>(
 }
 
 /// Why a message is dropped.
-fn drop_text(why: DropWhy) -> &'static str
+pub fn drop_text(why: DropWhy) -> &'static str
     ensures { result.now ≡ drop_words (drop_view why) }
 {
     match why {

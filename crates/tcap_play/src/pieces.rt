@@ -17,7 +17,7 @@ pub fn first_piece(octets: &[u8], mark: u8) -> (&[u8], Option<&[u8]>)
 }
 
 /// Whether a line is skipped: it is empty or begins with `#`.
-pub(crate) fn is_skipped(line: &[u8]) -> bool
+pub fn is_skipped(line: &[u8]) -> bool
     ensures { result ≡ is_skipped line.now }
 {
     matches!(line, [] | [b'#', ..])

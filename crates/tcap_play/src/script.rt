@@ -1,7 +1,7 @@
 //! Scripts: what their lines ask for.
 
 pub(crate) mod line;
-pub(crate) mod requests;
-pub(crate) mod values;
-pub(crate) mod word;
-pub(crate) mod words;
+pub mod requests;
+pub mod values;
+pub mod word;
+pub mod words;

@@ -66,7 +66,7 @@ fn add_rejected<A: Allocator + Copy>(
 }
 
 /// Adds the words of an output that closes an invocation, nothing of another.
-pub(super) fn add_closing<A: Allocator + Copy>(
+pub fn add_closing<A: Allocator + Copy>(
     text: &mut String<A>,
     output: &Output<'_, A>,
 ) -> Result<(), OutOfMemory>

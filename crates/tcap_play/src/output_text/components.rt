@@ -185,7 +185,7 @@ fn add_remote_reject<A: Allocator + Copy>(
 }
 
 /// Adds the words of an indication that closes no invocation, nothing of another output.
-pub(super) fn add_component<A: Allocator + Copy>(
+pub fn add_component<A: Allocator + Copy>(
     text: &mut String<A>,
     output: &Output<'_, A>,
 ) -> Result<(), OutOfMemory>

@@ -100,7 +100,7 @@ fn add_provider_abort<A: Allocator + Copy>(
 }
 
 /// Adds the words of an indication of dialogue handling, nothing of another output.
-pub(super) fn add_dialogue<A: Allocator + Copy>(
+pub fn add_dialogue<A: Allocator + Copy>(
     text: &mut String<A>,
     output: &Output<'_, A>,
 ) -> Result<(), OutOfMemory>

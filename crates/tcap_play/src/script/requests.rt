@@ -79,7 +79,7 @@ pub(crate) fn begin_request<'w, A: Allocator>(
 }
 
 /// A request to abort, for a reason.
-pub(crate) fn abort_request<'w, A: Allocator>(
+pub fn abort_request<'w, A: Allocator>(
     why: &[u8],
     information: &'w Word<'_, A>,
 ) -> Option<Request<'w>>
@@ -92,7 +92,7 @@ pub(crate) fn abort_request<'w, A: Allocator>(
 }
 
 /// The last result, with a body or none.
-pub(crate) fn last_request<'w, A: Allocator>(
+pub fn last_request<'w, A: Allocator>(
     id: &[u8],
     code: &[u8],
     parameter: &'w Word<'_, A>,
@@ -105,7 +105,7 @@ pub(crate) fn last_request<'w, A: Allocator>(
 }
 
 /// A result that isn't the last, with a body or none.
-pub(crate) fn more_request<'w, A: Allocator>(
+pub fn more_request<'w, A: Allocator>(
     id: &[u8],
     code: &[u8],
     parameter: &'w Word<'_, A>,
@@ -118,7 +118,7 @@ pub(crate) fn more_request<'w, A: Allocator>(
 }
 
 /// That the user gives an invocation up.
-pub(crate) fn cancel_request<'w>(id: &[u8]) -> Option<Request<'w>>
+pub fn cancel_request<'w>(id: &[u8]) -> Option<Request<'w>>
     ensures { option_map request_view result ≡ cancel_request_of id.now }
 {
     let id = identifier(id)?;
@@ -126,7 +126,7 @@ pub(crate) fn cancel_request<'w>(id: &[u8]) -> Option<Request<'w>>
 }
 
 /// An error.
-pub(crate) fn error_request<'w, A: Allocator>(
+pub fn error_request<'w, A: Allocator>(
     id: &[u8],
     code_word: &[u8],
     parameter: &'w Word<'_, A>,
@@ -141,7 +141,7 @@ pub(crate) fn error_request<'w, A: Allocator>(
 }
 
 /// A Reject.
-pub(crate) fn reject_request<'w>(id: &[u8], kind: &[u8], code: &[u8]) -> Option<Request<'w>>
+pub fn reject_request<'w>(id: &[u8], kind: &[u8], code: &[u8]) -> Option<Request<'w>>
     ensures { option_map request_view result ≡ reject_request_of id.now kind.now code.now }
 {
     Some(Request::Reject(RejectRequest {
@@ -151,7 +151,7 @@ pub(crate) fn reject_request<'w>(id: &[u8], kind: &[u8], code: &[u8]) -> Option<
 }
 
 /// An Invoke, by the words behind its dialogue.
-pub(crate) fn invoke_request<'w, A: Allocator>(
+pub fn invoke_request<'w, A: Allocator>(
     id: &[u8],
     class_word: &[u8],
     code_word: &[u8],

@@ -25,7 +25,7 @@ pub(crate) struct Name {
 }
 
 /// Whether the word is this one.
-pub(crate) fn is(word: &[u8], name: &str) -> bool
+pub fn is(word: &[u8], name: &str) -> bool
     ensures { result ≡ bytes_eq word.now name.now }
 {
     word == name.as_bytes()
@@ -54,7 +54,7 @@ pub(crate) fn message_name(word: &[u8]) -> Option<Name>
 }
 
 /// A moment or a timeout, in milliseconds.
-pub(crate) fn milliseconds(word: &[u8]) -> Option<u64>
+pub fn milliseconds(word: &[u8]) -> Option<u64>
     ensures { result ≡ milliseconds_of word.now }
 {
     number(word)
@@ -73,7 +73,7 @@ pub(crate) fn idle_limit(word: &[u8]) -> Option<u64>
 }
 
 /// The identifier of a dialogue.
-pub(crate) fn dialogue(word: &[u8]) -> Option<u32>
+pub fn dialogue(word: &[u8]) -> Option<u32>
     ensures { result ≡ dialogue_of word.now }
 {
     number_of_32_bits(word)
@@ -117,7 +117,7 @@ pub(crate) fn code<'w>(word: &[u8]) -> Option<Code<'w>>
 }
 
 /// The octets that a word spells; `-` spells none.
-pub(crate) fn octets<'w, A: Allocator>(word: &'w Word<'_, A>) -> Option<&'w [u8]>
+pub fn octets<'w, A: Allocator>(word: &'w Word<'_, A>) -> Option<&'w [u8]>
     ensures { option_copied result ≡ octets_of (text_of word.entry.now) }
 {
     match word.text {
@@ -127,7 +127,7 @@ pub(crate) fn octets<'w, A: Allocator>(word: &'w Word<'_, A>) -> Option<&'w [u8]
 }
 
 /// Octets that may be left out, with `-`.
-pub(crate) fn optional_octets<'w, A: Allocator>(word: &'w Word<'_, A>) -> Option<Option<&'w [u8]>>
+pub fn optional_octets<'w, A: Allocator>(word: &'w Word<'_, A>) -> Option<Option<&'w [u8]>>
     ensures { option_map option_copied result ≡ optional_octets_of (text_of word.entry.now) }
 {
     match word.text {

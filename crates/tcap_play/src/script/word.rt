@@ -24,15 +24,15 @@ fn octets_spelled<A: Allocator>(alloc: A, text: &[u8]) -> Result<Option<Vec<u8, 
 
 /// A word of a line that may stand for octets, with those that it spells where it is hexadecimal.
 #[derive(Drop)]
-pub(crate) struct Word<'s, A: Allocator = Global> {
-    pub(crate) text: &'s [u8],
+pub struct Word<'s, A: Allocator = Global> {
+    pub text: &'s [u8],
     octets: Option<Vec<u8, A>>,
     ghost spelled: { option_map (λ o. o.items) octets ≡ spelled_by text.now },
 }
 
 impl<'s, A: Allocator> Word<'s, A> {
     /// The word of these characters.
-    pub(crate) fn new(alloc: A, text: &'s [u8]) -> Result<Word<'s, A>, OutOfMemory>
+    pub fn new(alloc: A, text: &'s [u8]) -> Result<Word<'s, A>, OutOfMemory>
         ensures { IfOk result (λ word. word.text.now ≡ text.entry.now) }
     {
         let octets = octets_spelled(alloc, text)?;
@@ -40,7 +40,7 @@ impl<'s, A: Allocator> Word<'s, A> {
     }
 
     /// The octets that it spells, None where it isn't hexadecimal, or empty.
-    pub(crate) fn octets(&self) -> Option<&[u8]>
+    pub fn octets(&self) -> Option<&[u8]>
         ensures { option_copied result ≡ spelled_in self.now.text.now }
     {
         if self.text.is_empty() {
@@ -53,7 +53,7 @@ impl<'s, A: Allocator> Word<'s, A> {
     }
 
     /// The address that it names, None where it is neither `-` nor spells 1 to 255 octets.
-    pub(crate) fn address(&self) -> Option<Address>
+    pub fn address(&self) -> Option<Address>
         ensures { result ≡ named_address self.now.text.now }
     {
         match self.text {
@@ -64,10 +64,7 @@ impl<'s, A: Allocator> Word<'s, A> {
 }
 
 /// The address that a word names.
-pub(crate) fn address_named<A: Allocator>(
-    alloc: A,
-    text: &[u8],
-) -> Result<Option<Address>, OutOfMemory>
+pub fn address_named<A: Allocator>(alloc: A, text: &[u8]) -> Result<Option<Address>, OutOfMemory>
     ensures { IfOk result (λ address. address ≡ named_address text.now) }
 {
     let word = Word::new(alloc, text)?;

@@ -11,7 +11,7 @@ use std::alloc::Allocator;
 /// Cuts a line into its words, in place of those that were there: the vector of one line serves the next. A line
 /// of more words than a form has is the last, so that no room is kept for more.
 /// A word is a part of the line, and what it stands for is read where a form of line asks for it.
-pub(crate) fn cut_words<'s, A: Allocator + Copy>(
+pub fn cut_words<'s, A: Allocator + Copy>(
     words: &mut Vec<&'s [u8], A>,
     line: &'s [u8],
 ) -> Result<(), OutOfMemory>
