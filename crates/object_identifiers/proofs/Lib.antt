@@ -1,3 +1,4 @@
+pub mod CallerLemmas
 mod FittingLemmas
 mod NumberLemmas
 mod OctetGrammar
@@ -6,3 +7,4 @@ mod TextLemmas
 mod TextWriting
 mod TextGrammar
 mod Names
+mod TextCharacters
