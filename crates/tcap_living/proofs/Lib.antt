@@ -1,0 +1,6 @@
+pub mod LineParts
+pub mod LivedTexts
+pub mod LineDeeds
+pub mod Takings
+pub mod Goings
+pub mod WordNumbers
