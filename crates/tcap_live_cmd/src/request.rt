@@ -1,0 +1,25 @@
+//! What the words of the command ask for.
+
+use tcap_engine::Limits;
+
+/// The limits of an engine, and where its counters start.
+#[derive(Clone, Copy, Debug, PartialEq, Eq)]
+pub struct Settings {
+    /// What the engine keeps to.
+    pub limits: Limits,
+    /// The identifier of the first dialogue.
+    pub first_dialogue: u32,
+    /// The number of the first invocation.
+    pub first_number: u64,
+}
+
+/// What the words of the command ask for.
+#[derive(Clone, Copy, Debug, PartialEq, Eq)]
+pub enum Request {
+    /// An engine with these settings, by the lines on standard input.
+    Run(Settings),
+    /// `--help`: the options and the lines.
+    Help,
+    /// `--version`: the name and the version.
+    Version,
+}
