@@ -1,0 +1,6 @@
+//! What no clause says, run.
+
+mod command;
+mod devices;
+mod growths;
+mod lines;
