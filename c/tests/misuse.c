@@ -144,13 +144,11 @@ static void test_octets(void) {
   BAD(tcap_end(engine, 0, idle, TCAP_BASIC, &info));
   BAD(tcap_u_abort(engine, 0, idle, TCAP_USER_SPECIFIC, untrue));
 }
-/* Numbers out of their ranges, and beside each the last one in it, which is refused for another reason. */
-static void test_numbers(void) {
+/* Identifiers and problems out of their ranges, and beside each the last one in it, which is refused for another reason. */
+static void test_identifiers(void) {
   static const int bad_ids[] = {-129, 128, 200, 255, 257, 0x10001, INT32_MIN, INT32_MAX};
   static const int bad_problems[] = {-1, 0x080, 0x0ff, 0x180, 0x280, 0x380, 0x400, 0x10100, INT32_MIN, INT32_MAX};
-  static const int bad_classes[] = {-1, 0, 5, 7, 257, INT32_MAX};
-  tcap_code code = local_code(2), none = {TCAP_NO_CODE, 0, {NULL, 0}}, empty = {TCAP_GLOBAL, 0, {NULL, 0}}, other = code;
-  other.kind = (tcap_code_kind)7;
+  const tcap_code code = local_code(2);
   for (size_t i = 0; i < sizeof bad_ids / sizeof *bad_ids; i++) {
     BAD(tcap_invoke(engine, idle, bad_ids[i], TCAP_NO_ID, 1, code, no, 9, &number));
     BAD(tcap_invoke(engine, idle, 1, bad_ids[i], 1, code, no, 9, &number));
@@ -172,6 +170,12 @@ static void test_numbers(void) {
     BAD(tcap_u_reject(engine, idle, 1, bad_problems[i]));
   REFUSED(tcap_u_reject(engine, idle, 1, 0x000), TCAP_WRONG_STATE);
   REFUSED(tcap_u_reject(engine, idle, 1, 0x37f), TCAP_WRONG_STATE);
+}
+/* Classes, kinds of codes, terminations and reasons: the same. */
+static void test_enumerations(void) {
+  static const int bad_classes[] = {-1, 0, 5, 7, 257, INT32_MAX};
+  tcap_code code = local_code(2), none = {TCAP_NO_CODE, 0, {NULL, 0}}, empty = {TCAP_GLOBAL, 0, {NULL, 0}}, other = code;
+  other.kind = (tcap_code_kind)7;
   for (size_t i = 0; i < sizeof bad_classes / sizeof *bad_classes; i++)
     BAD(tcap_invoke(engine, idle, 1, TCAP_NO_ID, bad_classes[i], code, no, 9, &number));
   for (int op_class = 1; op_class <= 4; op_class++)
@@ -230,7 +234,8 @@ int main(void) {
   test_limits();
   test_no_engine();
   test_octets();
-  test_numbers();
+  test_identifiers();
+  test_enumerations();
   test_refusals();
   NEED(number == 7); /* nothing was written */
   NEED(tcap_status_text((tcap_status)17)[0] && tcap_status_text((tcap_status)-1)[0]);

@@ -23,11 +23,9 @@ static tcap_code global_code(void) {
   return code;
 }
 
-/* Each request of component handling and its arguments, in a dialogue that this side begins. */
-static void test_requests(void) {
-  tcap *engine = open_engine(0x01020304, 257);
+/* A dialogue that this side begins, with two Invokes: its identifier. */
+static uint32_t begun(tcap *engine) {
   tcap_portion portion = {hex(CONTEXT), hex(EXTERNAL)};
-  tcap_code none = {TCAP_NO_CODE, 0, {NULL, 0}};
   uint32_t d = 0, next_dialogue = 0;
   uint64_t number = 0;
   OK(tcap_new_dialogue(engine, &d));
@@ -44,6 +42,14 @@ static void test_requests(void) {
   NEED(tcap_due(engine, 1699) == 0 && tcap_due(engine, 1700) >= 1);
   OK(tcap_next_identifiers(engine, &next_dialogue, &number));
   NEED(next_dialogue == 0x01020305 && number == 259);
+  return d;
+}
+/* Each request of component handling and its arguments, in that dialogue. */
+static void test_requests(void) {
+  tcap *engine = open_engine(0x01020304, 257);
+  const uint32_t d = begun(engine);
+  const tcap_code none = {TCAP_NO_CODE, 0, {NULL, 0}};
+  uint64_t number = 0;
   OK(tcap_receive(engine, 1000, hex("0B34"), hex("6561" "480400000063" "490401020304"
       "6B372835" DIALOGUE_AS "A02A6128" VERSION_1 NAME "A203020100" "A305A103020100" "BE0B" EXTERNAL
       "6C1A" "A70D02018030080201FE30030401BB" "A109020105800180020107")));

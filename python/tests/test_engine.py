@@ -1,15 +1,14 @@
-"""What the package adds to the library: types of outputs, dialogues as context managers, threads, the end of an engine."""
+"""What the package adds to the library: types of outputs, dialogues as context managers, the end of an engine."""
 import copy
 import dataclasses
 import gc
 import pathlib
 import runpy
-import threading
 
 import pytest
 
 import tcap
-from tcap import _c, _told
+from tcap import _c
 from tcap import (
     Aare, BadArgument, BeginInd, ClosedInd, ContinueInd, Diagnostic, Dialogue, Dropped, DropCause, EndInd, Engine, Global,
     InvokeInd, LCancelInd, Local, LRejectInd, Output, PAbortInd, AbortCause, Problem, ResultLInd, ResultNLInd, Send, State,
@@ -286,87 +285,6 @@ def test_a_block_closes_its_engine() -> None:
         assert engine.dialogues() == 0
     with pytest.raises(BadArgument, match="closed"):
         engine.dialogues()
-
-
-@pytest.mark.parametrize("kind", [MemoryError, KeyboardInterrupt])
-def test_an_output_that_could_not_be_read_is_told_next(kind: type[BaseException], monkeypatch: pytest.MonkeyPatch) -> None:
-    engine = Engine()
-    for address in (b"A", b"B"):
-        engine.dialogue().begin(0, address)
-    with monkeypatch.context() as patch, pytest.raises(kind):
-        patch.setattr(_told, "output", lambda of, output: (_ for _ in ()).throw(kind))
-        engine.next()
-    assert [output.address for output in engine if isinstance(output, Send)] == [b"A", b"B"]
-
-
-def test_another_thread_waits_until_an_output_is_read(monkeypatch: pytest.MonkeyPatch) -> None:
-    engine, read, found = Engine(), _told.output, []
-    other = threading.Thread(target=lambda: found.append(engine.next()))
-
-    def read_later(of: Engine, output: object) -> Output:
-        monkeypatch.setattr(_told, "output", read)
-        other.start()
-        other.join(timeout=0.1)
-        assert other.is_alive()
-        return read(of, output)
-
-    for address in (b"A", b"B"):
-        engine.dialogue().begin(0, address)
-    monkeypatch.setattr(_told, "output", read_later)
-    found.append(engine.next())
-    other.join()
-    assert [output.address for output in found if isinstance(output, Send)] == [b"A", b"B"]
-
-
-def test_a_call_within_next(monkeypatch: pytest.MonkeyPatch) -> None:
-    """As where a collection, which may come while an output is read, leaves a dialogue's block."""
-    engine, read = Engine(), _told.output
-
-    def read_later(of: Engine, output: object) -> Output:
-        for refused in (of.next, of.close):
-            with pytest.raises(BadArgument, match="being read"):
-                refused()
-        with of.dialogue():
-            assert of.dialogues() == 2
-        return read(of, output)
-
-    engine.dialogue().begin(0, b"B")
-    monkeypatch.setattr(_told, "output", read_later)
-    assert isinstance(engine.next(), Send) and engine.next() is None and engine.dialogues() == 1
-
-
-def test_threads_share_an_engine() -> None:
-    engine, found = Engine(), []
-
-    def many() -> None:
-        for _ in range(200):
-            engine.dialogue().begin(0, b"B")
-            output = engine.next()
-            assert isinstance(output, Send)
-            found.append(output.message)
-
-    threads = [threading.Thread(target=many) for _ in range(4)]
-    for thread in threads:
-        thread.start()
-    for thread in threads:
-        thread.join()
-    assert len(found) == len(set(found)) == 800 and engine.next() is None
-
-
-def test_what_the_library_says() -> None:
-    assert tcap.library_version() >= (0, 1, 0)
-    assert all(tcap.status_text(status) for status in tcap.Status)
-
-
-def test_each_class_has_its_status() -> None:
-    from tcap.errors import CLASSES, refusal
-
-    assert set(CLASSES) == set(tcap.Status) - {tcap.Status.OK}
-    for status in CLASSES:  # by the same words, which names.py compares with tcap.h
-        error = refusal(status, "")
-        assert (error.status, type(error).__name__.lower()) == (status, tcap.Status(status).name.replace("_", "").lower())
-    newer = refusal(99, "of a newer library")
-    assert (type(newer), newer.status) == (tcap.TcapError, 99)
 
 
 def test_the_loop(capsys: pytest.CaptureFixture[str]) -> None:

@@ -1,10 +1,11 @@
-"""Which library is loaded, and which is refused."""
+"""Which library is loaded, which is refused, and what it says of itself and of its statuses."""
 from __future__ import annotations
 
 import ctypes
 
 import pytest
 
+import tcap
 from tcap import _c
 
 
@@ -62,3 +63,19 @@ def test_a_library_that_is_none_is_an_import_error(monkeypatch: pytest.MonkeyPat
     monkeypatch.setattr(Stub, "without", "tcap_due")
     with pytest.raises(ImportError, match="tcap_due"):
         _c._load()
+
+
+def test_what_the_library_says() -> None:
+    assert tcap.library_version() >= (0, 1, 0)
+    assert all(tcap.status_text(status) for status in tcap.Status)
+
+
+def test_each_class_has_its_status() -> None:
+    from tcap.errors import CLASSES, refusal
+
+    assert set(CLASSES) == set(tcap.Status) - {tcap.Status.OK}
+    for status in CLASSES:  # by the same words, which names.py compares with tcap.h
+        error = refusal(status, "")
+        assert (error.status, type(error).__name__.lower()) == (status, tcap.Status(status).name.replace("_", "").lower())
+    newer = refusal(99, "of a newer library")
+    assert (type(newer), newer.status) == (tcap.TcapError, 99)
