@@ -1,5 +1,6 @@
 pub mod AnswerText
 pub mod Computing
+pub mod EnginesView
 pub mod Examples
 pub mod Indications
 pub mod LineViews

@@ -7,6 +7,7 @@
 
 mod addresses;
 mod answer_text;
+mod by_line;
 mod by_words;
 pub mod examples;
 pub mod laws;
@@ -21,8 +22,10 @@ pub mod script;
 mod side;
 mod station;
 
+pub use by_line::Engines;
 pub use numbers::{number, signed};
-pub use pieces::first_piece;
+pub use opening::{Opening, opening_of};
+pub use pieces::{first_piece, is_skipped};
 pub use play::play_text;
 pub use run::run_play;
 pub use tcap_text::{PlayFault, run_stream};

@@ -15,13 +15,13 @@ use std::alloc::Allocator;
 
 /// What stands before the lines of a play, and these lines.
 #[derive(Clone, Copy)]
-pub(crate) struct Opening<'s> {
+pub struct Opening<'s> {
     /// The idle limit of both engines, in milliseconds, at most 2^62; 0 for none.
-    pub(crate) idle_ms: u64,
+    pub idle_ms: u64,
     /// How many lines stand before those of the play.
-    pub(crate) passed: u64,
+    pub passed: u64,
     /// The lines of the play, None where there are none.
-    pub(crate) rest: Option<&'s [u8]>,
+    pub rest: Option<&'s [u8]>,
 }
 
 /// The idle limit that the words of a line set: `idle MS`; None where they have another form.
@@ -47,7 +47,7 @@ fn limit_of<A: Allocator + Copy>(alloc: A, line: &[u8]) -> Result<Option<u64>, O
 }
 
 /// How a script opens: its first line that isn't skipped sets the idle limit, or is the first of the play.
-pub(crate) fn opening_of<'s, A: Allocator + Copy>(
+pub fn opening_of<'s, A: Allocator + Copy>(
     alloc: A,
     script: &'s [u8],
 ) -> Result<Opening<'s>, OutOfMemory>

@@ -149,7 +149,7 @@ pub(crate) fn act<A: Allocator + Copy>(
 }
 
 /// Does what the line of these octets asks for, and tells whether it could be done.
-fn act_by<'s, A: Allocator + Copy>(
+pub(crate) fn act_by<'s, A: Allocator + Copy>(
     alloc: A,
     addresses: &Addresses,
     words: &mut Vec<&'s [u8], A>,
@@ -166,7 +166,7 @@ fn act_by<'s, A: Allocator + Copy>(
 }
 
 /// A side before the first line, with this idle limit.
-fn begun<A: Allocator + Copy>(alloc: A, idle_ms: u64) -> Station<A>
+pub(crate) fn begun<A: Allocator + Copy>(alloc: A, idle_ms: u64) -> Station<A>
     requires { idle_ms ≤ moment_limit }
     ensures stands { (which : Which) → StandsAt (history_of which (not_begun idle_ms)) result.engine }
     ensures sent { result.sent.items ≡ [] }
