@@ -1,5 +1,5 @@
 -- What the tests of a word say.
-use Rattle.std.proofs.Common.{◌≡◌, ◌+◌, ◌*◌, ◌≤◌, ◌<◌, ◌&&◌, ◌||◌, ◌%◌, ◌↔◌, ℕ, ℤ, nat_le, Bool, true, false, not, List, [], ◌∷◌, length, codes, bytes_eq, Option, Some, None, Result, Ok, Err, is_some, is_ok, slice_index, refl, sym, ap, ◌∙◌, arith, IsTrue, subst, option_and_then, pos, neg_ℤ, zero, suc, ◌-◌, ◌==◌, if◌then◌else◌}
+use Rattle.std.proofs.Common.{◌≡◌, ◌*◌, ◌<◌, ◌&&◌, ◌↔◌, ℕ, ℤ, nat_le, Bool, true, false, not, List, [], ◌∷◌, length, codes, bytes_eq, Option, Some, None, Result, Ok, Err, is_some, is_ok, refl, sym, ap, ◌∙◌, arith, IsTrue, subst, option_and_then, pos, neg_ℤ, zero, suc, ◌-◌, ◌==◌, if◌then◌else◌}
 use Rattle.std.specs.List.{AllPass, find, list_all}
 use Rattle.std.specs.Str.{IsAscii, IsUtf8}
 use Rattle.std.specs.Char.{is_ascii_graphic}

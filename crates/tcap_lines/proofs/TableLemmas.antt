@@ -6,12 +6,10 @@ use Rattle.std.proofs.lemmas.List.{drop_all}
 use Rattle.std.specs.List.{find, list_any}
 use Rattle.tcap_lines.specs.declared.expected.Expected.{Expected}
 use Rattle.tcap_lines.specs.declared.fault.LineFault.{LineFault}
-use Rattle.tcap_lines.specs.declared.fault.WordFault.{WordFault}
 use Rattle.tcap_lines.specs.declared.fault.WordFault.TheVariants as fault
 use Rattle.tcap_lines.specs.FaultText.{name_words}
-use Rattle.tcap_lines.specs.LineFaults.{judged}
 use Rattle.tcap_lines.specs.Misfit.{or_else, unwritten}
-use Rattle.tcap_lines.specs.Reading.{at_word, or_later, walk}
+use Rattle.tcap_lines.specs.Reading.{at_word, walk}
 use Rattle.tcap_lines.specs.Table.{FormWords, LineTable, Wanted, is_listed, names_of, wanted_behind, wanted_by_name, words_named, wanted_words}
 
 -- a word is the name of a form exactly where it has words behind it

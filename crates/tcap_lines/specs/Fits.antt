@@ -1,7 +1,7 @@
 -- Whether a word is what it has to be.
-use Rattle.std.specs.Prelude.{ℕ, ℤ, nat_le, Bool, true, false, not, ◌&&◌, ◌||◌, List, [], ◌∷◌, length, Option, Some, None, codes, bytes_eq, is_some, is_ok, option_and_then}
+use Rattle.std.specs.Prelude.{ℕ, ℤ, nat_le, Bool, false, not, ◌&&◌, ◌||◌, List, Option, Some, None, codes, bytes_eq, is_some, is_ok}
 use Rattle.object_identifiers.specs.Contents.{object_identifier_at}
-use Rattle.tcap_play.specs.Numbers.{number, number_between, number_up_to}
+use Rattle.tcap_play.specs.Numbers.{number, number_between}
 use Rattle.tcap_play.specs.ScriptWords.{kind_of, named_address, name_of, octets_of, reason_of}
 use Rattle.tcap_lines.specs.declared.expected.Expected.{Expected}
 use Rattle.tcap_lines.specs.declared.expected.Expected.TheVariants as expected

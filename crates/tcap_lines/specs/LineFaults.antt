@@ -1,5 +1,5 @@
 -- The first word of a line that is wrong.
-use Rattle.std.specs.Prelude.{◌≡◌, ◌<◌, ◌+◌, ℕ, suc, zero, List, [], ◌∷◌, Option, Some, None, slice_get, if◌then◌else◌}
+use Rattle.std.specs.Prelude.{◌≡◌, ◌<◌, ◌+◌, ℕ, suc, zero, List, [], Option, Some, None, slice_get, if◌then◌else◌}
 use Rattle.tcap_lines.specs.declared.fault.LineFault.{LineFault}
 use Rattle.tcap_lines.specs.declared.fault.WordFault.{WordFault}
 use Rattle.tcap_lines.specs.declared.fault.WordFault.TheVariants as fault

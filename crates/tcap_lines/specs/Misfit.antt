@@ -1,12 +1,12 @@
 -- What is told of a word that isn't what it has to be.
-use Rattle.std.specs.Prelude.{ℕ, nat_lt, Bool, true, false, not, ◌&&◌, ◌==◌, ◌%◌, List, [], ◌∷◌, length, Option, Some, None, option_map, if◌then◌else◌}
+use Rattle.std.specs.Prelude.{ℕ, nat_lt, Bool, false, not, ◌&&◌, ◌==◌, ◌%◌, List, [], ◌∷◌, length, Option, Some, None, option_map, if◌then◌else◌}
 use Rattle.std.specs.Char.{is_ascii_digit, is_ascii_graphic, is_ascii_hexdigit}
 use Rattle.std.specs.List.{find, list_all}
 use Rattle.tcap_lines.specs.declared.expected.Expected.{Expected}
 use Rattle.tcap_lines.specs.declared.expected.Expected.TheVariants as expected
 use Rattle.tcap_lines.specs.declared.fault.WordFault.{WordFault}
 use Rattle.tcap_lines.specs.declared.fault.WordFault.TheVariants as fault
-use Rattle.tcap_lines.specs.Fits.{fits, is_dash}
+use Rattle.tcap_lines.specs.Fits.{is_dash}
 
 -- What makes octets no word: that there are none, or the first of them that is no visible character of
 -- ASCII (own).

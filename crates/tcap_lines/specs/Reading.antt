@@ -1,5 +1,5 @@
 -- The first word of a line that is wrong, computed.
-use Rattle.std.specs.Prelude.{◌+◌, ℕ, List, [], ◌∷◌, Option, Some, None, if◌then◌else◌}
+use Rattle.std.specs.Prelude.{◌+◌, ℕ, List, [], ◌∷◌, Option, Some, None}
 use Rattle.tcap_lines.specs.declared.fault.LineFault.{LineFault}
 use Rattle.tcap_lines.specs.declared.fault.WordFault.{WordFault}
 use Rattle.tcap_lines.specs.LineFaults.{judged, missing, surplus}

@@ -1,4 +1,4 @@
-use Rattle.std.proofs.Common.{rules, ◌≡◌, ◌∙◌, ◌++◌, ◌∷◌, [], sym, ap, false}
+use Rattle.std.proofs.Common.{◌≡◌, ◌∙◌, ◌++◌, ◌∷◌, [], sym, ap, false}
 use Rattle.tcap_play.specs.Pieces.{pieces_left, words_of}
 use Rattle.tcap_lines.specs.Reading.{first_fault, walk}
 use Rattle.tcap_lines.specs.Table.{is_listed, names_of}

@@ -1,4 +1,4 @@
-use Rattle.std.proofs.Common.{◌≡◌, ◌∙◌, ◌+◌, sym, ap, true, false, is_some, Option, Some, None}
+use Rattle.std.proofs.Common.{◌≡◌, ◌∙◌, ◌+◌, sym, ap, true, false, is_some, Some, None}
 use Rattle.tcap_play.specs.Pieces.{pieces_left}
 use Rattle.tcap_lines.specs.Reading.{at_word, walk}
 use Rattle.tcap_lines.specs.Table.{is_listed, wanted_behind, words_named}

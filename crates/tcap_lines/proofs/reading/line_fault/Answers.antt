@@ -1,5 +1,4 @@
-use Rattle.std.proofs.Common.{rules, ◌≡◌, ◌∙◌, sym, Option, Some, None}
-use Rattle.std.specs.Prelude.{IfSome, IfNone, IsSomeAnd}
+use Rattle.std.proofs.Common.{◌∙◌}
 use Rattle.tcap_play.specs.Pieces.{words_of}
 use Rattle.tcap_lines.specs.TableViews.{table_view}
 use Rattle.tcap_lines.proofs.WalkLemmas.{found-is, only-told, none-good, good_told, none_is}
