@@ -1,0 +1,5 @@
+mod ComparingLemmas
+mod PartLemmas
+mod PieceLemmas
+mod PrintedLemmas
+mod StoryLemmas
