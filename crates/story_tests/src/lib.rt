@@ -1,6 +1,6 @@
-//! The tests of `tcap_lines`: what is told of lines with a mistake.
+//! The tests of `tcap_lines` and `tcap_stories`: what is told of lines and of stories.
 //!
-//! Stands on `tcap_lines`. It has no function but the tests.
+//! Stands on both. It has no function but the tests.
 #![tactic(auto)]
 
 #[cfg(test)]

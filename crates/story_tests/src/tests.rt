@@ -1,3 +1,6 @@
-//! What is told of lines with a mistake, row by row.
+//! What is told of lines and of stories, row by row.
 
+mod expectations;
 mod lines;
+mod mistakes;
+mod refusals;
