@@ -62,7 +62,8 @@ class Dialogue:
 
     def __enter__(self) -> Dialogue:
         """BadArgument: the engine is closed."""
-        self.engine.__enter__()
+        with self.engine._lock:
+            self.engine._open()
         return self
 
     def __exit__(

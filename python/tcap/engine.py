@@ -151,8 +151,9 @@ class Engine:
     # ---- what is to be sent and told
 
     def next(self) -> Output | None:
-        """The output that comes next, which waits no longer; None where nothing waits. Where its octets can't be copied,
-        as by a MemoryError or a KeyboardInterrupt, the next call answers it."""
+        """The output that comes next, which waits no longer; None where nothing waits. Where an exception comes while its
+        octets are copied, as MemoryError, the next call answers it. A KeyboardInterrupt just before or just behind may
+        lose it: a program that is to lose none blocks the signal here."""
         with self._lock:
             self._unread()
             self._is_read = True

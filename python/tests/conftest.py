@@ -1,6 +1,7 @@
 """A test that hangs ends the run, with the lines at which it hung."""
 from __future__ import annotations
 
+import contextlib
 import faulthandler
 import os
 from collections.abc import Iterator
@@ -12,9 +13,10 @@ _errors = 2
 
 
 def pytest_configure(config: pytest.Config) -> None:
-    """Keeps standard error as it is before each test's own is captured."""
+    """Keeps standard error as it is before each test's own is captured, if it is."""
     global _errors
-    with config.pluginmanager.getplugin("capturemanager").global_and_fixture_disabled():
+    capturing = config.pluginmanager.getplugin("capturemanager")
+    with capturing.global_and_fixture_disabled() if capturing else contextlib.nullcontext():
         _errors = os.dup(2)
 
 

@@ -3,7 +3,7 @@ import threading
 
 import pytest
 
-from tcap import BadArgument, Engine, Output, Send, _told
+from tcap import BadArgument, Dialogue, Engine, Output, Send, _told
 
 
 @pytest.mark.parametrize("kind", [MemoryError, KeyboardInterrupt])
@@ -69,3 +69,30 @@ def test_threads_share_an_engine() -> None:
     for thread in threads:
         thread.join()
     assert len(found) == len(set(found)) == 800 and engine.next() is None
+
+
+def test_an_output_that_was_not_read_goes_with_its_engine(monkeypatch: pytest.MonkeyPatch) -> None:
+    engine = Engine()
+    engine.dialogue().begin(0, b"A")
+    with monkeypatch.context() as patch, pytest.raises(MemoryError):
+        patch.setattr(_told, "output", lambda of, output: (_ for _ in ()).throw(MemoryError))
+        engine.next()
+    engine.close()
+    with pytest.raises(BadArgument, match="closed"):
+        engine.next()
+
+
+def test_no_thread_closes_an_engine_while_a_block_is_left(monkeypatch: pytest.MonkeyPatch) -> None:
+    engine, state = Engine(), Dialogue.state
+    other = threading.Thread(target=engine.close)
+
+    def state_later(of: Dialogue) -> int:
+        other.start()
+        other.join(timeout=0.1)
+        assert other.is_alive()
+        return state(of)
+
+    monkeypatch.setattr(Dialogue, "state", state_later)
+    with pytest.raises(LookupError), engine.dialogue():
+        raise LookupError
+    other.join()

@@ -133,6 +133,7 @@ CALLS: list[tuple[str, type[Exception], Wrong]] = [
     ("a Continue before", tcap.WrongState, lambda e, d: d.go_on(0)),
     ("an End before", tcap.WrongState, lambda e, d: d.end(0)),
     ("an end of another kind", tcap.BadArgument, lambda e, d: d.end(0, termination=2)),
+    ("an end of a kind that C would cut", tcap.BadArgument, lambda e, d: d.end(0, termination=-(2**32))),
     ("an end of text", TypeError, lambda e, d: d.end(0, termination="basic")),
     ("an end of a fraction", TypeError, lambda e, d: d.end(0, termination=1.0)),
     ("an Abort for another reason", tcap.BadArgument, lambda e, d: d.u_abort(0, 9)),
@@ -144,6 +145,7 @@ CALLS: list[tuple[str, type[Exception], Wrong]] = [
     ("a status below 0", tcap.BadArgument, lambda e, d: tcap.status_text(-1)),
     # what is no object identifier (X.690, 8.19), or none that the library writes
     ("an object identifier of a number", TypeError, lambda e, d: tcap.oid(2)),  # type: ignore[arg-type]
+    ("an object identifier of octets", TypeError, lambda e, d: tcap.oid(b"0.4")),  # type: ignore[arg-type]
     ("an object identifier in octets of text", TypeError, lambda e, d: tcap.oid_text("2.5")),  # type: ignore[arg-type]
     ("a verdict on text", TypeError, lambda e, d: tcap.check("62")),  # type: ignore[arg-type]
     # another number than it compares as, and other octets than it says to have
