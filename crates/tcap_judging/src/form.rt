@@ -5,7 +5,7 @@
 pub enum Form {
     /// A line for each message.
     Plain,
-    /// The same, and below a faulty message its octets about the place of the fault, with a mark.
+    /// Plain, and below a faulty message its octets about the place of the fault, with a mark.
     Marked,
     /// An object of JSON in each line.
     Json,

@@ -95,7 +95,7 @@ fn add_plain<A: Allocator + Copy>(
     Ok(good)
 }
 
-/// The same, and below it the octets about the place of its fault, if it has one.
+/// Adds the line of a message, and below it the octets about the place of its fault, if it has one.
 fn add_marked<A: Allocator + Copy>(
     text: &mut String<A>,
     called: Label<'_>,

@@ -6,19 +6,19 @@
 pub enum Expected {
     /// A number, no less than the first and no more than the second.
     Number(u64, u64),
-    /// The same, with `-` before one below zero.
+    /// Such a number, with `-` before one below zero.
     Signed(i32, i32),
-    /// The same, or `-` where it is absent.
+    /// Such a number, or `-` where it is absent.
     OptionalSigned(i32, i32),
     /// Octets in hexadecimal, or `-` for none.
     Octets,
-    /// The same, behind the word of a code: where that is `-`, so is this.
+    /// Such octets, behind the word of a code: where that is `-`, so is this.
     OctetsBehindCode,
     /// An address in hexadecimal: at most 255 octets, or `-` for none.
     Address,
     /// An application context name in hexadecimal, or `-` where it is absent.
     Context,
-    /// The same, or in dotted form, as `0.4.0.0.1.0.1.3`.
+    /// Such a context, or one in dotted form, as `0.4.0.0.1.0.1.3`.
     DottedContext,
     /// The kind of a problem: `general`, `invoke`, `result` or `error`.
     ProblemKind,
