@@ -7,6 +7,8 @@ use Rattle.tcap_model.specs.Words.Output.{Output}
 use Rattle.tcap_dialogue.specs.declared.dialogue.Step.{Step}
 use Rattle.tcap_primitives.specs.declared.fault.Fault.{Fault}
 use Rattle.tcap_primitives.specs.FaultViews.{fault_view}
+use Rattle.tcap_reception.specs.declared.state.After.{After}
+use Rattle.tcap_reception.specs.StateViews.{is_over}
 use Rattle.tcap_dialogue.specs.StepViews.{Outcome, StepsTo, stepped}
 
 -- Whether something is kept or told, for which memory may be refused: the answer is no refusal and no
@@ -38,8 +40,8 @@ Steps (Err f) o old new = RefusedBy (fault_view f) o old new
 
 -- What a step appended, or a refusal, is what the outcome says; the dialogue may be over after a step, and a refusal
 -- appends nothing (own).
-abbrev pub StepsInto : List Output → List Output → Result Bool Fault → Outcome → model.Dialogue → model.Dialogue → Type 0
-StepsInto before after (Ok over) o old new = StepsTo before after over new o
+abbrev pub StepsInto : List Output → List Output → Result After Fault → Outcome → model.Dialogue → model.Dialogue → Type 0
+StepsInto before after (Ok state) o old new = StepsTo before after (is_over state) new o
 StepsInto before after (Err f) o old new = (after ≡ before) × RefusedBy (fault_view f) o old new
 
 -- An invocation gets a number (own).

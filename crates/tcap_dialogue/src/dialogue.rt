@@ -38,8 +38,9 @@ pub struct Step<'m, A: Allocator = Global> {
 /// - Requests of the TC-user: `invoke`, `result_last`, `result_more`, `error_back`, `u_reject`,
 ///   `u_cancel`; `uni`, `begin`, `go_on`, `finish`, `u_abort`; or any of them by `ask`.
 /// - Events from outside: `accept`, which makes the dialogue of a Begin, `take_frame`, `take_fault`;
-///   time: `lapse`, or one by one `due_count`, `first_due`, `lapse_one` and `free_due`; the end of one
-///   that was idle too long, one by one: `open_count`, `close_one`; or it is postponed by `touch`.
+///   time: `lapse`; or timer by timer `expire_first`; or one by one `due_count`, `first_due`, `lapse_one`
+///   and `free_due`; the end of one that was idle too long: `abort_idle`, or one by one `open_count`,
+///   `close_one`; or it is postponed by `touch`.
 /// - Getters: `identifier`, `state`, `peer`, `kept`, `check_invoke`, `next_timer`, `idle_at`.
 ///
 /// Moments are in milliseconds by the caller's clock, at most 2^62. A contract sees the identifier,

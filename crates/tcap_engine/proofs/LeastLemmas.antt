@@ -11,11 +11,11 @@ use Rattle.tcap_invocation.specs.Order.{put_by, first_of}
 use Rattle.tcap_invocation.proofs.CallerLemmas.{length-in_order}
 use Rattle.tcap_model.specs.Table.Dialogue.{Dialogue, idle_end, with_invocations}
 use Rattle.tcap_model.specs.Table.DueLapses.{DueLapse, all_due, all_told, at_moment, due_told, table_idle_told}
-use Rattle.tcap_dialogue.specs.Timers.{earliest}
+use Rattle.tcap_dialogue.specs.Timers.{earliest, lapse_told}
 use Rattle.tcap_engine.specs.IdleDialogues.{idle_ids}
-use Rattle.tcap_engine.specs.Lapsing.{AreBehind, IsFirstTimer, IsExpired, IsExpiredIn, IsPutOff, IsRunOut, due_from, idle_of, row_count, rows_timer, timer_of, told_of}
-use Rattle.tcap_engine.specs.declared.engine.moment.Expiry.{Expiry}
-use Rattle.tcap_engine.specs.declared.engine.moment.Expiry.TheVariants as passed
+use Rattle.tcap_dialogue.specs.declared.dialogue.timers.Timer.{Timer}
+use Rattle.tcap_dialogue.specs.declared.dialogue.timers.Timer.TheVariants as idle
+use Rattle.tcap_engine.specs.Lapsing.{AreBehind, IsFirstTimer, IsExpired, IsPutOff, IsRunOut, due_from, idle_of, row_count, rows_timer, timer_of}
 use Rattle.tcap_engine.specs.DialogueEntries.{TableEntry, AreFrom, dialogues_of}
 use Rattle.tcap_engine.proofs.OrderLemmas.{put_all, put-put, put-first}
 use Rattle.tcap_engine.proofs.DueLemmas.{is_sooner, sooner-never, sooner-once, sooner-behind, sooner-through, named, told_in, order, order-cons}
@@ -152,20 +152,16 @@ module _ (now t d : ℕ) (ps : List TableEntry) (old new : Dialogue) (from : Are
   named-so : old.standing.identifier ≡ d
   named-so = found-own d 0 old ps from found
 
-  -- what it leaves is the same: only what is told of lapses is to be said
-  run-out : (what : Expiry) (lapse : Option Lapse) → told_of d what ≡ option_to_list (option_map (λ l. due_told (due_from d l)) lapse) → idle_of d what ≡ [] → IsRunOut now t lapse old new → IsExpired now d what ps after
-  run-out what lapse tells none h = record {
-    told = run-out-told now t d lapse ps old new from timer found h own ∙ ap (λ os. os ++ all_told now (dialogues_of after)) (sym tells);
+  -- a timer of its invocations ran out
+  pub run-out-set : (what : Timer) (lapse : Option Lapse) → idle_of d what ≡ [] → IsRunOut now t lapse old new → IsExpired now d what ps after
+  run-out-set what lapse none h = record {
     idle = sym same ∙ ap (λ ids. ids ++ idle_ids now after) (sym none);
     ends = ends-set now d old new ps found (idle-told-same h.alike h.rest);
     left = λ ids among. left-set now d old new ids ps from found (λ other. h.rest);
-    from = from-set d 0 new ps own from;
+    from = from-set d 0 new ps (ap (λ (w : Dialogue). w.standing.identifier) h.alike ∙ named-so) from;
     fewer = let rows = row_count-set d old new ps found h.fewer in let ids = ap (λ (l : List ℕ). length l) same in omega (arith, rows, ids);
   }
     where
-      own : new.standing.identifier ≡ d
-      own = ap (λ (w : Dialogue). w.standing.identifier) h.alike ∙ named-so
-
       same : idle_ids now after ≡ idle_ids now ps
       same = idle-same now d old new ps found h.alike
 
@@ -173,10 +169,13 @@ module _ (now t d : ℕ) (ps : List TableEntry) (old new : Dialogue) (from : Are
       idle-told-same e rest =
           ap (λ (w : Dialogue). Output.dialogue (DialogueIndication.p_abort w.standing.identifier AbortCause.idle) ∷ ended_told w.standing.identifier w.invocations) rest
 
+  pub run-out-tells : (lapse : Option Lapse) → IsRunOut now t lapse old new → all_told now (dialogues_of ps) ≡ lapse_told d lapse ++ all_told now (dialogues_of after)
+  run-out-tells None h = run-out-told now t d None ps old new from timer found h (ap (λ (w : Dialogue). w.standing.identifier) h.alike ∙ named-so)
+  run-out-tells (Some lapse) h = run-out-told now t d (Some lapse) ps old new from timer found h (ap (λ (w : Dialogue). w.standing.identifier) h.alike ∙ named-so)
+
   -- its end is postponed
-  put-off : IsPutOff now t old new → t ≤ now → IsExpired now d passed.Idle ps after
-  put-off h reached = record {
-    told = ap (map due_told) (sym (order-same now d old new ps found (ap (told_in now) h.is_touched)));
+  pub put-off-set : IsPutOff now t old new → t ≤ now → IsExpired now d idle.Idle ps after
+  put-off-set h reached = record {
     idle = idle-first now t d old ps from found h.ends reached (idle-behind (t, d) ps timer.least) ∙ ap (λ (w : Dialogue). d ∷ idle_ids now (set_value (nat_eq d) ps w)) (sym h.is_touched);
     ends = ends-set now d old new ps found (ap (table_idle_told now) h.is_touched);
     left = λ ids among. left-set now d old new ids ps from found (λ other. absurd (let is = among refl in let never : true ≡ false = sym is ∙ other in cc));
@@ -188,11 +187,8 @@ module _ (now t d : ℕ) (ps : List TableEntry) (old new : Dialogue) (from : Are
         omega (arith, ids, here, rows);
   }
 
--- The first timer of all has run out, in the dialogue that was written.
-pub passed-set : (now t d : ℕ) (what : Expiry) (ps : List TableEntry) (old new : Dialogue) → AreFrom 0 ps → IsFirstTimer ps (t, d) → t ≤ now → lookup (nat_eq d) ps ≡ Some old → IsExpiredIn now t what old new → IsExpired now d what ps (set_value (nat_eq d) ps new)
-passed-set now t d (passed.Lapsed lapse) ps old new from timer le found h = run-out now t d ps old new from timer found (passed.Lapsed lapse) (Some lapse) refl refl h
-passed-set now t d passed.Freed ps old new from timer le found h = run-out now t d ps old new from timer found passed.Freed None refl refl h
-passed-set now t d passed.Idle ps old new from timer le found h = put-off now t d ps old new from timer found h le
+  pub put-off-tells : IsPutOff now t old new → all_told now (dialogues_of ps) ≡ all_told now (dialogues_of after)
+  put-off-tells h = ap (map due_told) (sym (order-same now d old new ps found (ap (told_in now) h.is_touched)))
 
 -- The dialogue of the first timer is the one that is found.
 pub same-first : (ps : List TableEntry) (t d : ℕ) (w : Dialogue) → IsFirstTimer ps (t, d) → lookup (nat_eq d) ps ≡ Some w → timer_of w ≡ Some t

@@ -1,209 +1,199 @@
 -- The first timer of a dialogue runs out: what was due there, and what is left.
-use Rattle.std.proofs.Common.{◌≡◌, ◌≢◌, ◌⊎◌, inl, inr, ℕ, ℤ, ◌<◌, ◌≤◌, Bool, true, false, cond, not, nat_lt, nat_le, List, [], ◌∷◌, length, filter, Option, Some, None, is_some, refl, ap, sym, subst, ◌∙◌, arith, tests}
-use Rattle.std.proofs.lemmas.List.Filters.{length-filter_both}
-use Rattle.std.specs.Prelude.{IfSome}
-use Rattle.std.specs.Ordering.{int_eq}
-use Rattle.std.specs.List.{cons_option}
-use Rattle.std.specs.Map.{lookup, remove_entry}
-use Rattle.tcap_engine.specs.Lapsing.{IsRunOut, rows_timer}
-use Rattle.tcap_engine.proofs.TimerLemmas.{AllFrom, IsIn, least-from, least-in, first-from}
-use Rattle.tcap_invocation.specs.declared.invocations.Invocation.{Invocation}
+use Rattle.std.proofs.Common.{◌≡◌, ℕ, ◌+◌, ◌<◌, ◌≤◌, Bool, true, false, cond, nat_eq, nat_lt, nat_le, List, [], ◌∷◌, ◌++◌, length, Option, Some, None, refl, ap, sym, subst, ◌∙◌, append_assoc, length-append, arith, tests}
+use Rattle.std.proofs.lemmas.List.{length-map}
+use Rattle.std.specs.Map.{lookup, set_value}
+use Rattle.std.specs.Prelude.{IfSome, unwrap_or}
+use Rattle.tcap_dialogue.specs.Timers.{after_timer, earliest, expiry_by, first_by, idle_by, lapse_told, reached_by, timer_of as kind_of}
+use Rattle.tcap_dialogue.specs.declared.dialogue.timers.Timer.{Timer}
+use Rattle.tcap_dialogue.specs.declared.dialogue.timers.Timer.TheVariants as timer
+use Rattle.tcap_engine.specs.DialogueEntries.{TableEntry, AreFrom, dialogues_of}
+use Rattle.tcap_engine.specs.Lapsing.{IsExpired, IsFirstTimer, IsPutOff, IsRunOut, rows_timer, timer_of}
+use Rattle.tcap_engine.proofs.LeastLemmas.{length-all_told, put-off-set, put-off-tells, run-out-set, run-out-tells, same-first}
+use Rattle.tcap_engine.proofs.TableLemmas.{found-own}
+use Rattle.tcap_invocation.specs.declared.invocations.lapse.Expiry.{Expiry}
+use Rattle.tcap_invocation.specs.declared.invocations.lapse.Expiry.TheVariants.{Lapse as Lapses, Wait}
 use Rattle.tcap_invocation.specs.declared.invocations.lapse.Lapse.{Lapse}
-use Rattle.tcap_invocation.specs.declared.stage.Stage.{Stage}
-use Rattle.tcap_invocation.specs.declared.stage.Stage.TheVariants.{Queued, Sent, Waiting}
-use Rattle.tcap_invocation.specs.Invocations.{Row, InvocationList, freed, entry_at, with_rows}
-use Rattle.tcap_invocation.specs.Lapses.{due_at, due_deadline, first_due_at, told_at, is_before, is_held, lapse_for, lapse_of, lapse_with, stays, after_lapse, after_lapse_one, after_free_due}
-use Rattle.tcap_invocation.specs.Order.{in_order_by, first_of}
-use Rattle.tcap_invocation.specs.Timers.{time_of, times_of}
-use Rattle.tcap_invocation.proofs.CallerLemmas.{front, first_of-put}
-use Rattle.tcap_model.specs.Table.Dialogue.{Dialogue, with_invocations}
-use Rattle.tcap_model.specs.Table.DueLapses.{at_moment}
+use Rattle.tcap_invocation.specs.Expiries.{RunsOut, WasNext, after_expiry, lapse_in}
+use Rattle.tcap_model.specs.Table.Dialogue.{Dialogue, idle_end, touched_at, with_invocations}
+use Rattle.tcap_invocation.specs.Lapses.{due_at, told_at, is_before}
+use Rattle.tcap_invocation.proofs.CallerLemmas.{length-in_order}
+use Rattle.tcap_model.specs.Table.DueLapses.{all_due, all_told, due_in}
+use Rattle.tcap_model.specs.Words.Output.{Output}
 
--- ---- a timer that a moment has reached
+-- ---- the moment of the timer
 
--- A lapse has this deadline.
-abbrev LapsesAt : ℕ → Option Lapse → Type 0
-LapsesAt t None = ⊥
-LapsesAt t (Some l) = l.deadline ≡ t
-
--- Either what is due first lapses at the timer, or a wait is over.
-abbrev RunsOut : ℕ → ℕ → List Row → Type 0
-RunsOut now t rows = LapsesAt t (first_due_at now rows) ⊎ (length (filter (λ r. is_held now r.1.stage) rows) < length rows)
-
-held-most : (now : ℕ) (rows : List Row) → length (filter (λ r. is_held now r.1.stage) rows) ≤ length rows
-held-most now rows = omega (arith, length-filter_both (λ r. is_held now r.1.stage) (λ r. not (is_held now r.1.stage)) (λ r. refl) rows)
-
-runs-out : (now t : ℕ) (rows : List Row) → t ≤ now → AllFrom t (times_of rows) → IsIn t (times_of rows) → RunsOut now t rows
-runs-out now t [] le h i = absurd i
-runs-out now t (r ∷ rs) le h i = go r.1.stage h i (runs-out now t rs le) (first-from now t rs) (held-most now rs)
+until-late : (now : ℕ) (o : Option ℕ) → unwrap_or (reached_by now o) now ≤ now
+until-late now None = omega arith
+until-late now (Some y) = go (nat_le y now) refl
   where
-    kept : List Row
-    kept = filter (λ r. is_held now r.1.stage) rs
+    go : (b : Bool) → nat_le y now ≡ b → unwrap_or (cond b (Some y) None) now ≤ now
+    go true e = grind (arith, tests, e)
+    go false e = omega arith
 
-    Out : Stage → Type 0
-    Out s = LapsesAt t (first_of (in_order_by is_before (cons_option (lapse_with r.0 r.1.number (due_deadline now s)) (due_at now rs)))) ⊎ (length (cond (is_held now s) (r ∷ kept) kept) < length (r ∷ rs))
-
-    put : (l : Lapse) → LapsesAt t (Some (front is_before l (first_due_at now rs))) → LapsesAt t (first_of (in_order_by is_before (l ∷ due_at now rs)))
-    put l h = subst (LapsesAt t) (sym (first_of-put is_before l (in_order_by is_before (due_at now rs)))) h
-
-    -- the row's own timer is this one
-    own : (l : Lapse) (o : Option Lapse) → l.deadline ≡ t → IfSome o (λ z. t ≤ z.deadline) → LapsesAt t (Some (front is_before l o))
-    own l None e k = e
-    own l (Some z) e k = pick (is_before z l) refl
-      where
-        pick : (b : Bool) → is_before z l ≡ b → (cond b z l).deadline ≡ t
-        pick true d = let up : z.deadline ≤ l.deadline = grind (arith, tests, d) in omega (arith, up, e, k)
-        pick false d = e
-
-    -- the first of the others lapses then
-    other : (l : Lapse) (o : Option Lapse) → t ≤ l.deadline → LapsesAt t o → LapsesAt t (Some (front is_before l o))
-    other l None k e = absurd e
-    other l (Some z) k e = pick (is_before z l) refl
-      where
-        pick : (b : Bool) → is_before z l ≡ b → (cond b z l).deadline ≡ t
-        pick true d = e
-        pick false d = let up : l.deadline ≤ z.deadline = grind (arith, tests, d) in omega (arith, up, e, k)
-
-    further : (n : ℕ) → length kept < n → n ≡ length rs → length (r ∷ kept) < length (r ∷ rs)
-    further n lt e = omega (arith, lt, e)
-
-    -- one of the others runs out
-    sent : (deadline : ℕ) (b : Bool) → t ≤ deadline → LapsesAt t (first_due_at now rs) → LapsesAt t (first_of (in_order_by is_before (cons_option (lapse_with r.0 r.1.number (cond b (Some deadline) None)) (due_at now rs))))
-    sent deadline true k e = let l : Lapse = record { deadline = deadline; number = r.1.number; id = r.0 } in put l (other l (first_due_at now rs) k e)
-    sent deadline false k e = e
-
-    go : (s : Stage) → AllFrom t (cons_option (time_of s) (times_of rs)) → IsIn t (cons_option (time_of s) (times_of rs))
-        → (AllFrom t (times_of rs) → IsIn t (times_of rs) → RunsOut now t rs) → (AllFrom t (times_of rs) → IfSome (first_due_at now rs) (λ z. t ≤ z.deadline)) → length kept ≤ length rs → Out s
-    go (Queued timeout) h i ih from most = pass (ih h i)
-      where
-        pass : RunsOut now t rs → Out (Queued timeout)
-        pass (inl e) = inl e
-        pass (inr lt) = inr (omega (arith, lt))
-    go (Sent deadline) h (inl e) ih from most =
-        let l : Lapse = record { deadline = deadline; number = r.1.number; id = r.0 } in
-        let reached : nat_le deadline now ≡ true = grind (arith, tests, e, le) in
-        inl (rw reached (put l (own l (first_due_at now rs) e (from h.1))))
-    go (Sent deadline) h (inr i) ih from most = pass (ih h.1 i)
-      where
-        pass : RunsOut now t rs → Out (Sent deadline)
-        pass (inl e) = inl (sent deadline (nat_le deadline now) h.0 e)
-        pass (inr lt) = inr (omega (arith, lt))
-    go (Waiting until) h (inl e) ih from most =
-        let over : nat_lt now until ≡ false = grind (arith, tests, e, le) in
-        inr (rw over (omega (arith, most)))
-    go (Waiting until) h (inr i) ih from most = pass (ih h.1 i)
-      where
-        dropped : (b : Bool) → length kept < length rs → length (cond b (r ∷ kept) kept) < length (r ∷ rs)
-        dropped true lt = omega (arith, lt)
-        dropped false lt = omega (arith, lt)
-
-        pass : RunsOut now t rs → Out (Waiting until)
-        pass (inl e) = inl e
-        pass (inr lt) = inr (dropped (nat_lt now until) lt)
-
--- ---- waits that are over
-
-due-held : (now : ℕ) (rows : List Row) → due_at now (filter (λ r. is_held now r.1.stage) rows) ≡ due_at now rows
-due-held now [] = refl
-due-held now (r ∷ rs) = go r.1.stage refl (due-held now rs)
+-- what lapses before the idle limit is the first
+lapse-first : (now t deadline : ℕ) (o : Option ℕ) → deadline ≤ unwrap_or (reached_by now o) now → earliest (Some deadline) o ≡ Some t → deadline ≡ t
+lapse-first now t deadline None by e = cc
+lapse-first now t deadline (Some y) by e = go (nat_lt y deadline) refl e
   where
-    kept : List Row
-    kept = filter (λ r. is_held now r.1.stage) rs
-
-    more : due_at now kept ≡ due_at now rs → due_at now (r ∷ kept) ≡ due_at now (r ∷ rs)
-    more ih = ap (cons_option (lapse_of now r)) ih
-
-    go : (s : Stage) → r.1.stage ≡ s → due_at now kept ≡ due_at now rs → due_at now (cond (is_held now s) (r ∷ kept) kept) ≡ due_at now (r ∷ rs)
-    go (Queued timeout) e ih = more ih
-    go (Sent deadline) e ih = more ih
-    go (Waiting until) e ih = wait (nat_lt now until)
+    go : (b : Bool) → nat_lt y deadline ≡ b → Some (cond b y deadline) ≡ Some t → deadline ≡ t
+    go false d e = cc
+    go true d e = absurd (reach (nat_le y now) refl by)
       where
-        wait : (b : Bool) → due_at now (cond b (r ∷ kept) kept) ≡ due_at now (r ∷ rs)
-        wait true = more ih
-        wait false = ih ∙ ap (λ s. cons_option (lapse_with r.0 r.1.number (due_deadline now s)) (due_at now rs)) (sym e)
+        reach : (b : Bool) → nat_le y now ≡ b → deadline ≤ unwrap_or (cond b (Some y) None) now → ⊥
+        reach true k by = grind (arith, tests, d, by)
+        reach false k by = grind (arith, tests, d, k, by)
 
-stays-held : (now : ℕ) (rows : List Row) → filter (λ r. stays now r.1.stage) (filter (λ r. is_held now r.1.stage) rows) ≡ filter (λ r. stays now r.1.stage) rows
-stays-held now [] = refl
-stays-held now (r ∷ rs) = go r.1.stage refl (stays-held now rs)
+-- where no timer of the invocations comes before the idle limit, that is the first
+idle-first : (t y : ℕ) (next : Option ℕ) → IfSome next (λ time. y < time) → earliest next (Some y) ≡ Some t → y ≡ t
+idle-first t y None behind e = cc
+idle-first t y (Some x) behind e =
+    let less : nat_lt y x ≡ true = grind (arith, tests, behind) in
+    let first : Some (cond (nat_lt y x) y x) ≡ Some t = e in
+    let is : Some y ≡ Some t = rw less at first in
+    cc
+
+-- where none is reached, none is first
+none-first : (now t : ℕ) (next o : Option ℕ) → IfSome next (λ time. now < time) → reached_by now o ≡ None → t ≤ now → earliest next o ≡ Some t → ⊥
+none-first now t None None behind late le e = cc
+none-first now t (Some x) None behind late le e = let is : x ≡ t = cc in omega (arith, is, le, behind)
+none-first now t next (Some y) behind late le e = go (nat_le y now) refl late
   where
-    kept : List Row
-    kept = filter (λ r. is_held now r.1.stage) rs
-
-    left : List Row
-    left = filter (λ r. stays now r.1.stage) rs
-
-    more : filter (λ r. stays now r.1.stage) kept ≡ left → filter (λ r. stays now r.1.stage) (r ∷ kept) ≡ cond (stays now r.1.stage) (r ∷ left) left
-    more ih = ap (λ (l : List Row). cond (stays now r.1.stage) (r ∷ l) l) ih
-
-    go : (s : Stage) → r.1.stage ≡ s → filter (λ r. stays now r.1.stage) kept ≡ left
-        → filter (λ r. stays now r.1.stage) (cond (is_held now s) (r ∷ kept) kept) ≡ cond (stays now r.1.stage) (r ∷ left) left
-    go (Queued timeout) e ih = more ih
-    go (Sent deadline) e ih = more ih
-    go (Waiting until) e ih = wait (nat_lt now until) refl
+    first : (next : Option ℕ) → IfSome next (λ time. now < time) → now < y → earliest next (Some y) ≡ Some t → ⊥
+    first None behind after e = let is : y ≡ t = cc in omega (arith, is, le, after)
+    first (Some x) behind after e = pick (nat_lt y x) e
       where
-        wait : (b : Bool) → nat_lt now until ≡ b → filter (λ r. stays now r.1.stage) (cond b (r ∷ kept) kept) ≡ cond (stays now r.1.stage) (r ∷ left) left
-        wait true d = more ih
-        wait false d = ih ∙ ap (λ b. cond b (r ∷ left) left) (sym (ap (stays now) e ∙ d))
+        pick : (b : Bool) → Some (cond b y x) ≡ Some t → ⊥
+        pick true e = let is : y ≡ t = cc in omega (arith, is, le, after)
+        pick false e = let is : x ≡ t = cc in omega (arith, is, le, behind)
 
--- A dialogue whose first timer a moment has reached and that has nothing that lapses at it: a wait is over.
-pub freed-passed : (now t : ℕ) (old new : Dialogue) → rows_timer old ≡ Some t → t ≤ now → IfSome (first_due_at now old.invocations.rows) (λ l. l.deadline ≢ t)
-    → new ≡ with_invocations old (after_free_due old.invocations now) → IsRunOut now t None old new
-freed-passed now t old new timer le never e = record {
-  told = ap (in_order_by is_before) (sym (due-held now old.invocations.rows)) ∙ ap (λ (d : Dialogue). told_at now d.invocations.rows) (sym e);
-  first = tt;
-  rest = ap (at_moment now) e ∙ ap (λ (rows : List Row). with_invocations old (with_rows old.invocations rows)) (stays-held now old.invocations.rows);
-  alike = e ∙ ap (with_invocations old) (sym (ap (λ (d : Dialogue). d.invocations) e));
-  fewer = subst (λ (d : Dialogue). length d.invocations.rows < length old.invocations.rows) (sym e) (go (runs-out now t old.invocations.rows le (least-from t (times_of old.invocations.rows) timer) (least-in t (times_of old.invocations.rows) timer)));
-}
+    go : (b : Bool) → nat_le y now ≡ b → cond b (Some y) None ≡ None → ⊥
+    go true k late = absurd cc
+    go false k late = first next behind (grind (arith, tests, k)) e
+
+reached-is : (now y : ℕ) (o : Option ℕ) → reached_by now o ≡ Some y → o ≡ Some y
+reached-is now y None e = absurd cc
+reached-is now y (Some z) e = go (nat_le z now) e
   where
-    go : RunsOut now t old.invocations.rows → length (filter (λ r. is_held now r.1.stage) old.invocations.rows) < length old.invocations.rows
-    go (inl l) = absurd (refuted (first_due_at now old.invocations.rows) never l)
-      where
-        refuted : (o : Option Lapse) → IfSome o (λ l. l.deadline ≢ t) → LapsesAt t o → ⊥
-        refuted None n l = l
-        refuted (Some z) n l = n l
-    go (inr lt) = lt
+    go : (b : Bool) → cond b (Some z) None ≡ Some y → Some z ≡ Some y
+    go true e = e
+    go false e = absurd cc
 
--- ---- a lapse
+-- ---- in the table
 
--- Where the identifier has a row, there are fewer rows without it.
-removed-fewer : (id : ℤ) (rows : List Row) (entry : Invocation) → entry_at rows id ≡ Some entry → length (remove_entry (int_eq id) rows) < length rows
-removed-fewer id [] entry found = absurd cc
-removed-fewer id (r ∷ rs) entry found = go (int_eq id r.0) found (λ f. removed-fewer id rs entry f)
+module _ (now t d : ℕ) (ps : List TableEntry) (old : Dialogue) (from : AreFrom 0 ps) (first : IsFirstTimer ps (t, d)) (le : t ≤ now) (found : lookup (nat_eq d) ps ≡ Some old) where
+  timely : earliest (rows_timer old) (idle_end old) ≡ Some t
+  timely = same-first ps t d old first found
+
+  -- invocations that ran out by the moment up to which they come first
+  ran-out : (expiry : Expiry) → RunsOut (first_by now old) (Some expiry) old.invocations (after_expiry old.invocations (first_by now old) (Some expiry))
+      → IsRunOut now t (lapse_in (Some expiry)) old (with_invocations old (after_expiry old.invocations (first_by now old) (Some expiry)))
+  ran-out expiry rest = record {
+    told = rest.told now (until-late now (idle_end old));
+    first = deadline expiry rest;
+    rest = ap (with_invocations old) (rest.rest now (until-late now (idle_end old)));
+    alike = refl;
+    fewer = rest.fewer refl;
+  }
+    where
+      deadline : (expiry : Expiry) → RunsOut (first_by now old) (Some expiry) old.invocations (after_expiry old.invocations (first_by now old) (Some expiry)) → IfSome (lapse_in (Some expiry)) (λ l. l.deadline ≡ t)
+      deadline (Lapses l) rest = lapse-first now t l.deadline (idle_end old) rest.deadline (ap (λ o. earliest o (idle_end old)) (sym rest.next) ∙ timely)
+      deadline Wait rest = tt
+
+  put-off : (y : ℕ) → idle_by now old ≡ Some y → RunsOut y None old.invocations (after_expiry old.invocations y None) → IsPutOff now t old (touched_at old now)
+  put-off y idle rest =
+      let ends : idle_end old ≡ Some y = reached-is now y (idle_end old) idle in
+      let is : y ≡ t = idle-first t y (rows_timer old) rest.next (ap (earliest (rows_timer old)) (sym ends) ∙ timely) in
+      record { ends = ends ∙ ap Some is; is_touched = refl }
+
+  abbrev after : Option Expiry → Option ℕ → List TableEntry
+  after expiry idle = set_value (nat_eq d) ps (after_timer now expiry idle old)
+
+  -- What ran out, and what is told of it.
+  pub record Ran (expiry : Option Expiry) (idle : Option ℕ) : Type 0 where
+    pub expired : IfSome (kind_of expiry idle) (λ what. IsExpired now d what ps (after expiry idle))
+    pub told : all_told now (dialogues_of ps) ≡ lapse_told d (lapse_in expiry) ++ all_told now (dialogues_of (after expiry idle))
+    pub some : kind_of expiry idle ≡ None → ⊥
+
+  pub ran : RunsOut (first_by now old) (expiry_by now old) old.invocations (after_expiry old.invocations (first_by now old) (expiry_by now old)) → Ran (expiry_by now old) (idle_by now old)
+  ran rest = go (expiry_by now old) (idle_by now old) refl rest
+    where
+      go : (expiry : Option Expiry) (idle : Option ℕ) → idle_by now old ≡ idle → RunsOut (first_by now old) expiry old.invocations (after_expiry old.invocations (first_by now old) expiry) → Ran expiry idle
+      go (Some (Lapses l)) idle is rest =
+          let at : (o : Option ℕ) → idle_by now old ≡ o → IsRunOut now t (Some l) old (after_timer now (Some (Lapses l)) o old) =
+          λ o e. subst (λ (o : Option ℕ). IsRunOut now t (Some l) old (after_timer now (Some (Lapses l)) o old)) e (ran-out (Lapses l) rest) in
+          record {
+            expired = run-out-set now t d ps old (after_timer now (Some (Lapses l)) idle old) from first found timer.Lapse (Some l) refl (at idle is);
+            told = run-out-tells now t d ps old (after_timer now (Some (Lapses l)) idle old) from first found (Some l) (at idle is);
+            some = λ none. absurd cc;
+          }
+      go (Some Wait) idle is rest =
+          let at : (o : Option ℕ) → idle_by now old ≡ o → IsRunOut now t None old (after_timer now (Some Wait) o old) =
+          λ o e. subst (λ (o : Option ℕ). IsRunOut now t None old (after_timer now (Some Wait) o old)) e (ran-out Wait rest) in
+          record {
+            expired = run-out-set now t d ps old (after_timer now (Some Wait) idle old) from first found timer.Wait None refl (at idle is);
+            told = run-out-tells now t d ps old (after_timer now (Some Wait) idle old) from first found None (at idle is);
+            some = λ none. absurd cc;
+          }
+      go None (Some y) is rest =
+          let at = put-off y is (subst (λ (o : Option ℕ). RunsOut (unwrap_or o now) None old.invocations (after_expiry old.invocations (unwrap_or o now) None)) is rest) in
+          record {
+            expired = put-off-set now t d ps old (touched_at old now) from first found at le;
+            told = put-off-tells now t d ps old (touched_at old now) from first found at;
+            some = λ none. absurd cc;
+          }
+      go None None is rest =
+          let bad : ⊥ = none-first now t (rows_timer old) (idle_end old) (subst (λ (o : Option ℕ). WasNext (unwrap_or o now) None (rows_timer old)) is rest.next) is le timely in
+          absurd bad
+
+  -- what is to be told at the moment is what was told, and the rest
+  pub tells : (new : Dialogue) (before told : List Output) → Ran (expiry_by now old) (idle_by now old) → new ≡ after_timer now (expiry_by now old) (idle_by now old) old → told ≡ before ++ lapse_told old.standing.identifier (lapse_in (expiry_by now old))
+      → told ++ all_told now (dialogues_of (set_value (nat_eq d) ps new)) ≡ before ++ all_told now (dialogues_of ps)
+  tells new before told r is pushed =
+      let rest : List Output = all_told now (dialogues_of (after (expiry_by now old) (idle_by now old))) in
+      let own = found-own d 0 old ps from found in
+      ap (λ (w : Dialogue). told ++ all_told now (dialogues_of (set_value (nat_eq d) ps w))) is
+      ∙ ap (λ os. os ++ rest) pushed
+      ∙ append_assoc before (lapse_told old.standing.identifier (lapse_in (expiry_by now old))) rest
+      ∙ ap (λ i. before ++ (lapse_told i (lapse_in (expiry_by now old)) ++ rest)) own
+      ∙ ap (λ os. before ++ os) (sym r.told)
+
+  pub fits : (new : Dialogue) (places left : ℕ) → Ran (expiry_by now old) (idle_by now old) → new ≡ after_timer now (expiry_by now old) (idle_by now old) old → places ≤ left + length (lapse_told old.standing.identifier (lapse_in (expiry_by now old)))
+      → places + length (all_told now (dialogues_of (set_value (nat_eq d) ps new))) ≤ left + length (all_told now (dialogues_of ps))
+  fits new places left r is most =
+      let rest : List Output = all_told now (dialogues_of (after (expiry_by now old) (idle_by now old))) in
+      let own = ap (λ i. length (lapse_told i (lapse_in (expiry_by now old)))) (found-own d 0 old ps from found) in
+      let same = ap (λ (w : Dialogue). length (all_told now (dialogues_of (set_value (nat_eq d) ps w)))) is in
+      let long = ap length r.told ∙ length-append (lapse_told d (lapse_in (expiry_by now old))) rest in
+      omega (arith, own, same, long, most)
+
+  pub expires : (new : Dialogue) (what : Timer) → Ran (expiry_by now old) (idle_by now old) → new ≡ after_timer now (expiry_by now old) (idle_by now old) old → kind_of (expiry_by now old) (idle_by now old) ≡ Some what
+      → IsExpired now d what ps (set_value (nat_eq d) ps new)
+  expires new what r is kind =
+      let so : IsExpired now d what ps (after (expiry_by now old) (idle_by now old)) =
+      subst (λ o. IfSome o (λ what. IsExpired now d what ps (after (expiry_by now old) (idle_by now old)))) kind r.expired in
+      subst (λ (w : Dialogue). IsExpired now d what ps (set_value (nat_eq d) ps w)) (sym is) so
+
+-- ---- room
+
+-- As much as is told of one dialogue is told of all.
+due-within : (now d : ℕ) (ps : List TableEntry) (old : Dialogue) → lookup (nat_eq d) ps ≡ Some old → length (due_at now old.invocations.rows) ≤ length (all_due now (dialogues_of ps))
+due-within now d [] old found = absurd cc
+due-within now d (p ∷ ps) old found = go (nat_eq d p.0) found (due-within now d ps old)
   where
-    go : (b : Bool) → cond b (Some r.1) (lookup (int_eq id) rs) ≡ Some entry → (entry_at rs id ≡ Some entry → length (remove_entry (int_eq id) rs) < length rs)
-        → length (cond b rs (r ∷ remove_entry (int_eq id) rs)) < length (r ∷ rs)
-    go true f ih = omega arith
-    go false f ih = let rest = ih f in omega (arith, rest)
+    parts : length (all_due now (dialogues_of (p ∷ ps))) ≡ length (due_in now p.1) + length (all_due now (dialogues_of ps))
+    parts = length-append (due_in now p.1) (all_due now (dialogues_of ps))
 
-freed-fewer : (now : ℕ) (list : InvocationList) (id : ℤ) (o : Option Invocation) → entry_at list.rows id ≡ o → told_at now list.rows ≢ told_at now (freed list id (is_some (lapse_for now id o))).rows
-    → length (freed list id (is_some (lapse_for now id o))).rows < length list.rows
-freed-fewer now list id None e other = absurd (other refl)
-freed-fewer now list id (Some entry) e other = go (is_some (lapse_of now (id, entry))) other
-  where
-    go : (b : Bool) → told_at now list.rows ≢ told_at now (freed list id b).rows → length (freed list id b).rows < length list.rows
-    go true other = removed-fewer id list.rows entry e
-    go false other = absurd (other refl)
+    own : length (due_in now p.1) ≡ length (due_at now p.1.invocations.rows)
+    own = length-map (due_at now p.1.invocations.rows) _
 
-longer : {X : Type 0} (x : X) (xs ys : List X) → ys ≡ x ∷ xs → ys ≢ xs
-longer x xs ys e same = let one = ap length e in let two = ap length same in omega (arith, one, two)
+    go : (b : Bool) → cond b (Some p.1) (lookup (nat_eq d) ps) ≡ Some old → (lookup (nat_eq d) ps ≡ Some old → length (due_at now old.invocations.rows) ≤ length (all_due now (dialogues_of ps)))
+        → length (due_at now old.invocations.rows) ≤ length (all_due now (dialogues_of (p ∷ ps)))
+    go true f ih = let is : p.1 ≡ old = cc in let same = ap (λ (w : Dialogue). length (due_at now w.invocations.rows)) is in omega (arith, parts, own, same)
+    go false f ih = let most = ih f in omega (arith, parts, most)
 
--- What is due first in a dialogue has lapsed.
-pub lapse-passed : (now t : ℕ) (old new : Dialogue) (l : Lapse) → first_due_at now old.invocations.rows ≡ Some l → l.deadline ≡ t
-    → new ≡ with_invocations old (after_lapse_one old.invocations l.id now)
-    → IfSome (first_due_at now old.invocations.rows) (λ z. z.id ≡ l.id → told_at now old.invocations.rows ≡ z ∷ told_at now new.invocations.rows)
-    → after_lapse new.invocations now ≡ after_lapse old.invocations now
-    → IsRunOut now t (Some l) old new
-lapse-passed now t old new l first at e tells rest = record {
-  told = told;
-  first = at;
-  rest = ap (at_moment now) e ∙ ap (with_invocations old) (ap (λ (d : Dialogue). after_lapse d.invocations now) (sym e) ∙ rest);
-  alike = e ∙ ap (with_invocations old) (sym (ap (λ (d : Dialogue). d.invocations) e));
-  fewer =
-      let other : told_at now old.invocations.rows ≢ told_at now (after_lapse_one old.invocations l.id now).rows =
-      longer l (told_at now (after_lapse_one old.invocations l.id now).rows) (told_at now old.invocations.rows) (told ∙ ap (λ (d : Dialogue). l ∷ told_at now d.invocations.rows) e) in
-      subst (λ (d : Dialogue). length d.invocations.rows < length old.invocations.rows) (sym e) (freed-fewer now old.invocations l.id (entry_at old.invocations.rows l.id) refl other);
-}
-  where
-    told : told_at now old.invocations.rows ≡ l ∷ told_at now new.invocations.rows
-    told = (subst (λ o. IfSome o (λ z. z.id ≡ l.id → told_at now old.invocations.rows ≡ z ∷ told_at now new.invocations.rows)) first tells) refl
+pub told-within : (now d : ℕ) (ps : List TableEntry) (old : Dialogue) → lookup (nat_eq d) ps ≡ Some old → length (told_at now old.invocations.rows) ≤ length (all_told now (dialogues_of ps))
+told-within now d ps old found =
+    let one = length-in_order is_before (due_at now old.invocations.rows) in
+    let all = length-all_told now (dialogues_of ps) in
+    let most = due-within now d ps old found in
+    omega (arith, one, all, most)

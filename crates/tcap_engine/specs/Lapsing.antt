@@ -7,8 +7,8 @@ use Rattle.tcap_invocation.specs.declared.invocations.lapse.Lapse.{Lapse}
 use Rattle.tcap_invocation.specs.Lapses.{told_at}
 use Rattle.tcap_invocation.specs.Timers.{next_timer_at}
 use Rattle.tcap_dialogue.specs.Timers.{earliest}
-use Rattle.tcap_engine.specs.declared.engine.moment.Expiry.{Expiry}
-use Rattle.tcap_engine.specs.declared.engine.moment.Expiry.TheVariants as passed
+use Rattle.tcap_dialogue.specs.declared.dialogue.timers.Timer.{Timer}
+use Rattle.tcap_dialogue.specs.declared.dialogue.timers.Timer.TheVariants as timer
 use Rattle.tcap_model.specs.Table.Dialogue.{Dialogue, idle_end, touched_at, with_invocations}
 use Rattle.tcap_model.specs.Words.Output.{Output}
 use Rattle.tcap_model.specs.Table.DueLapses.{DueLapse, due_told, all_told, at_moment}
@@ -64,12 +64,6 @@ pub record IsPutOff (now time : ℕ) (old new : Dialogue) : Type 0 where
   pub ends : idle_end old ≡ Some time
   pub is_touched : new ≡ touched_at old now
 
--- The first timer of a dialogue, which a moment has reached, ran out (own).
-abbrev pub IsExpiredIn : ℕ → ℕ → Expiry → Dialogue → Dialogue → Type 0
-IsExpiredIn now time (passed.Lapsed lapse) old new = IsRunOut now time (Some lapse) old new
-IsExpiredIn now time passed.Freed old new = IsRunOut now time None old new
-IsExpiredIn now time passed.Idle old new = IsPutOff now time old new
-
 -- How many invocations stand in all dialogues (own).
 abbrev pub row_count : List TableEntry → ℕ
 row_count [] = 0
@@ -79,33 +73,24 @@ row_count (p ∷ ps) = length p.1.invocations.rows + row_count ps
 abbrev pub due_from : ℕ → Lapse → DueLapse
 due_from dialogue lapse = record { dialogue = dialogue; lapse = lapse }
 
--- What is told of a dialogue when its first timer runs out: the lapse, if it was one
--- (Q.774, Invocation timer).
-abbrev pub told_of : ℕ → Expiry → List Output
-told_of d (passed.Lapsed lapse) = due_told (due_from d lapse) ∷ []
-told_of d passed.Freed = []
-told_of d passed.Idle = []
-
 -- The dialogue, where its end is postponed (own).
-abbrev pub idle_of : ℕ → Expiry → List ℕ
-idle_of d (passed.Lapsed lapse) = []
-idle_of d passed.Freed = []
-idle_of d passed.Idle = d ∷ []
+abbrev pub idle_of : ℕ → Timer → List ℕ
+idle_of d timer.Lapse = []
+idle_of d timer.Wait = []
+idle_of d timer.Idle = d ∷ []
 
 -- How much time may still do at a moment: a step for each invocation, and one for each dialogue that has been
 -- idle too long (own).
 abbrev pub step_count : ℕ → List TableEntry → ℕ
 step_count now ps = row_count ps + length (idle_ids now ps)
 
--- The first timer of all, which a moment has reached, ran out: what is told at the moment is the lapse, if
--- it was one, and then the rest; of the dialogues that have been idle too long it is the first, if its end
--- is postponed, and then the rest, and what is told of each is the same. What the moment leaves, but for
--- some dialogues that are over and that one among them, is the same; the identifiers rise as before (Q.774,
--- Invocation timer; Q.774, Reject timer).
-pub record IsExpired (now d : ℕ) (what : Expiry) (old new : List TableEntry) : Type 0 where
-  pub told : all_told now (dialogues_of old) ≡ told_of d what ++ all_told now (dialogues_of new)
+-- The first timer of all, which a moment has reached, ran out: of the dialogues that have been idle too long it is
+-- the first, if its end is postponed, and then the rest, and what is told of each is the same. What the moment
+-- leaves, but for some dialogues that are over and that one among them, is the same; the identifiers rise as before
+-- (Q.774, Invocation timer; Q.774, Reject timer).
+pub record IsExpired (now d : ℕ) (what : Timer) (old new : List TableEntry) : Type 0 where
   pub idle : idle_ids now old ≡ idle_of d what ++ idle_ids now new
   pub ends : (id : ℕ) → ends_in now new id ≡ ends_in now old id
-  pub left : (ids : List ℕ) → (what ≡ passed.Idle → is_among ids d ≡ true) → left_by now ids new ≡ left_by now ids old
+  pub left : (ids : List ℕ) → (what ≡ timer.Idle → is_among ids d ≡ true) → left_by now ids new ≡ left_by now ids old
   pub from : AreFrom 0 new
   pub fewer : step_count now new < step_count now old

@@ -112,16 +112,16 @@ module _ {A : Type 0} (before : A → A → Bool) where
   first_both None o = o
   first_both (Some a) o = Some (front before a o)
 
-  first_both-none : (o : Option A) → first_both o None ≡ o
+  pub first_both-none : (o : Option A) → first_both o None ≡ o
   first_both-none None = refl
   first_both-none (Some a) = refl
 
-  first_of-cons : (o : Option A) (xs : List A) → first_of (in_order_by before (cons_option o xs)) ≡ first_both o (first_of (in_order_by before xs))
+  pub first_of-cons : (o : Option A) (xs : List A) → first_of (in_order_by before (cons_option o xs)) ≡ first_both o (first_of (in_order_by before xs))
   first_of-cons None xs = refl
   first_of-cons (Some x) xs = first_of-put before x (in_order_by before xs)
 
   module _ (trans : (a b c : A) → before a b ≡ true → before b c ≡ true → before a c ≡ true) (behind : (a b c : A) → before b a ≡ false → before c b ≡ false → before c a ≡ false) where
-    both_both : (a b c : Option A) → first_both (first_both a b) c ≡ first_both a (first_both b c)
+    pub both_both : (a b c : Option A) → first_both (first_both a b) c ≡ first_both a (first_both b c)
     both_both None b c = refl
     both_both (Some x) None c = refl
     both_both (Some x) (Some y) None = refl

@@ -1,5 +1,7 @@
 pub mod CallerLemmas
 mod DueLemmas
+mod ExpiryLemmas
+mod FirstTimerLemmas
 mod IndexingLemmas
 mod FewLemmas
 pub mod InsertionLemmas

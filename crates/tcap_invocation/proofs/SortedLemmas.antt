@@ -1,5 +1,5 @@
 -- The rows stay sorted through each change.
-use Rattle.std.proofs.Common.{◌≡◌, ℤ, ◌≤◌, ◌*◌, Bool, true, false, cond, List, [], ◌∷◌, ◌++◌, filter, Some, None, refl, ap, sym, subst, ℕ, Result, Ok, Err, OnOk, OnErr}
+use Rattle.std.proofs.Common.{◌≡◌, ℤ, ◌≤◌, ◌*◌, Bool, true, false, cond, List, [], ◌∷◌, ◌++◌, filter, Option, Some, None, refl, ap, sym, subst, ℕ, Result, Ok, Err, OnOk, OnErr}
 use Rattle.std.specs.Ordering.{int_eq}
 use Rattle.std.specs.Cmp.{int_eq_equiv}
 use Rattle.std.specs.List.{AllByRecursion, IsDistinct, list_any}
@@ -11,6 +11,10 @@ use Rattle.tcap_invocation.specs.declared.stage.Stage.{Stage}
 use Rattle.tcap_invocation.specs.declared.stage.Stage.TheVariants.{Queued, Sent, Waiting}
 use Rattle.tcap_invocation.specs.Stage.{moment_limit, is_queued}
 use Rattle.tcap_invocation.specs.Invocations.{Row, sent_at, at_stage, without, sent_entry, sent_rows}
+use Rattle.tcap_invocation.specs.declared.invocations.lapse.Expiry.{Expiry}
+use Rattle.tcap_invocation.specs.declared.invocations.lapse.Expiry.TheVariants.{Lapse as Lapses, Wait}
+use Rattle.tcap_invocation.specs.Expiries.{rows_after}
+use Rattle.tcap_invocation.specs.Lapses.{is_held}
 use Rattle.tcap_invocation.specs.Rows.{AreSorted, IsNew}
 use Rattle.tcap_invocation.specs.TimerList.{timer_with}
 use Rattle.tcap_invocation.proofs.OrderLemmas.{AreInOrder-remove_entry, AreInOrder-at_stage, AreInOrder-filter, AreInOrder-sent_rows, AreInOrder-push, entry_at-sent}
@@ -76,6 +80,11 @@ AreSorted-filter p rows s = record {
   distinct = IsDistinct-keys_filter int_eq p rows s.distinct;
   queued_last = AreQueuedLast-filter p rows s.queued_last;
 }
+
+pub AreSorted-after : (clock : ℕ) (rows : List Row) (expiry : Option Expiry) → AreSorted rows → AreSorted (rows_after clock rows expiry)
+AreSorted-after clock rows None s = s
+AreSorted-after clock rows (Some (Lapses lapse)) s = AreSorted-without rows lapse.id s
+AreSorted-after clock rows (Some Wait) s = AreSorted-filter (λ r. is_held clock r.1.stage) rows s
 
 pub AreSorted-sent : (clock : ℕ) (rows : List Row) → clock ≤ moment_limit → AreSorted rows → AreSorted (sent_rows clock rows)
 AreSorted-sent clock rows late s = record {

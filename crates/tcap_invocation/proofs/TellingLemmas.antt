@@ -78,6 +78,14 @@ told_at-first list id clock sound = go (first_due_at clock list.rows) refl
     go None e = tt
     go (Some l) e = λ same. told_at-after_lapse_one list clock l sound e ∙ ap (λ (i : ℤ). l ∷ told_at clock (after_lapse_one list i clock).rows) same
 
+-- an identifier that lapses is that of an invocation
+pub lapse-entry : (clock : ℕ) (rows : List Row) (id : ℤ) (l : Lapse) → lapse_at clock rows id ≡ Some l → (e : Invocation) × (entry_at rows id ≡ Some e)
+lapse-entry clock rows id l = go (entry_at rows id)
+  where
+    go : (o : Option Invocation) → lapse_for clock id o ≡ Some l → (e : Invocation) × (o ≡ Some e)
+    go None h = absurd cc
+    go (Some entry) h = (entry, refl)
+
 -- ---- what stays at a clock
 
 stays-due : (clock : ℕ) (id : ℤ) (entry : Invocation) (l : Lapse) → lapse_of clock (id, entry) ≡ Some l → stays clock entry.stage ≡ false
@@ -92,7 +100,7 @@ stays-due clock id entry l = go entry.stage
         come true p h = grind (arith, tests, p)
         come false p h = absurd cc
 
-filter-without : (clock : ℕ) (id : ℤ) (l : Lapse) (rows : List Row) → lapse_at clock rows id ≡ Some l → filter (λ r. stays clock r.1.stage) (without rows id) ≡ filter (λ r. stays clock r.1.stage) rows
+pub filter-without : (clock : ℕ) (id : ℤ) (l : Lapse) (rows : List Row) → lapse_at clock rows id ≡ Some l → filter (λ r. stays clock r.1.stage) (without rows id) ≡ filter (λ r. stays clock r.1.stage) rows
 filter-without clock id l [] h = absurd cc
 filter-without clock id l (r ∷ rs) h = go (int_eq id r.0) h (filter-without clock id l rs)
   where

@@ -8,6 +8,7 @@ use Rattle.tcap_invocation.specs.declared.invocations.lapse.Lapse.{Lapse}
 use Rattle.tcap_invocation.specs.declared.invocations.timers.Timer.{Timer}
 use Rattle.tcap_invocation.specs.Order.{put_by}
 use Rattle.tcap_invocation.specs.TimerList.{is_earlier, IsInOrder, told_of_timer}
+pub use Rattle.tcap_invocation.specs.TimerList.{lapse_at_time}
 use Rattle.tcap_invocation.proofs.InsertionLemmas.{Ahead, Ordered, ordered_put, ordered_in_order}
 use Rattle.tcap_invocation.proofs.SortLemmas.{in_order-fixed, IsPartitionedBy-before, ordered_filter, ordered_remove, put_put}
 
@@ -62,9 +63,6 @@ none-earlier (x ∷ xs) t first o is late k d high = go (is_earlier (slice_index
         let both : false ≡ true = sym none ∙ head in absurd cc
 
 -- ---- what is due
-
-abbrev pub lapse_at_time : Timer → Lapse
-lapse_at_time t = record { deadline = t.time; number = t.number; id = t.id }
 
 untold : (clock : ℕ) (t : Timer) → nat_le t.time clock ≡ false → told_of_timer clock t ≡ None
 untold clock t late = go t.lapses (nat_le t.time clock) late

@@ -2,6 +2,7 @@ pub mod Answers
 pub mod Class
 pub mod Closing
 pub mod Examples
+pub mod Expiries
 pub mod Fault
 pub mod Invocations
 pub mod Lapses

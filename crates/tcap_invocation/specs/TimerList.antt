@@ -1,13 +1,15 @@
 -- The timers that are kept beside the rows: one for each Sent or Waiting row, by time, then number.
-use Rattle.std.specs.Prelude.{◌≡◌, ℕ, zero, suc, ℤ, ◌≤◌, ◌==◌, ◌&&◌, ◌||◌, Bool, true, false, nat_lt, nat_le, List, [], ◌∷◌, length, filter_map, Option, Some, None, if◌then◌else◌}
+use Rattle.std.specs.Prelude.{◌≡◌, ℕ, zero, suc, ℤ, ◌≤◌, ◌==◌, ◌&&◌, ◌||◌, Bool, true, false, nat_lt, nat_le, List, [], ◌∷◌, length, filter_map, slice_get, Option, Some, None, if◌then◌else◌}
 use Rattle.std.specs.List.Sorted.{IsPartitionPoint}
+use Rattle.tcap_invocation.specs.declared.invocations.few.First.{First}
 use Rattle.tcap_invocation.specs.declared.invocations.lapse.Lapse.{Lapse}
 use Rattle.tcap_invocation.specs.declared.invocations.timers.Timer.{Timer}
 use Rattle.tcap_invocation.specs.declared.stage.Stage.{Stage}
 use Rattle.tcap_invocation.specs.declared.stage.Stage.TheVariants.{Queued, Sent, Waiting}
 use Rattle.tcap_invocation.specs.Stage.{is_queued}
 use Rattle.tcap_invocation.specs.Order.{put_by, in_order_by}
-use Rattle.tcap_invocation.specs.Invocations.{Row, sent_entry}
+use Rattle.tcap_invocation.specs.declared.invocations.Invocation.{Invocation}
+use Rattle.tcap_invocation.specs.Invocations.{Row, entry_at, sent_entry}
 
 -- What a contract sees of the timers: the list, and for how many there is room (own).
 pub record TimerList : Type 0 where
@@ -45,10 +47,50 @@ abbrev pub put_timer : Option Timer → List Timer → List Timer
 put_timer None timers = timers
 put_timer (Some timer) timers = put_by is_earlier timer timers
 
+-- What is told of an invocation with this timer once it lapses (own).
+abbrev pub lapse_at_time : Timer → Lapse
+lapse_at_time t = record { deadline = t.time; number = t.number; id = t.id }
+
 -- What is told at the clock of an invocation with this timer (own).
 abbrev pub told_of_timer : ℕ → Timer → Option Lapse
 told_of_timer clock t =
     if t.lapses && nat_le t.time clock then Some (record { deadline = t.time; number = t.number; id = t.id }) else None
+
+-- An invocation has this timer (own).
+pub record HasTimer (rows : List Row) (timer : Timer) : Type 0 where
+  pub entry : Invocation
+  pub found : entry_at rows timer.id ≡ Some entry
+  pub own : timer_of (timer.id, entry) ≡ Some timer
+
+-- ---- few rows
+
+-- The timer of the row at a place (own).
+pub record IsAt (rows : List Row) (first : First) (timer : Timer) : Type 0 where
+  pub row : Row
+  pub at : slice_get rows first.place ≡ Some row
+  pub own : timer_of row ≡ Some timer
+  pub time : first.time ≡ timer.time
+  pub lapses : first.lapses ≡ timer.lapses
+
+-- The place is that of this timer, if there is one (own).
+abbrev pub IsFirst : List Row → Option First → Option Timer → Type 0
+IsFirst rows None None = Unit {0}
+IsFirst rows None (Some timer) = ⊥
+IsFirst rows (Some first) None = ⊥
+IsFirst rows (Some first) (Some timer) = IsAt rows first timer
+
+-- The earlier of two, of which the one that was found before stays where both come at one moment (own).
+abbrev pub nearer_of : Option First → First → Option First
+nearer_of None found = Some found
+nearer_of (Some first) found = Some (if nat_lt found.time first.time then found else first)
+
+-- That, and the one of a row at this place, if it has one (own).
+abbrev pub nearer_at : Option First → ℕ → Stage → Option First
+nearer_at first place (Queued timeout) = first
+nearer_at first place (Sent deadline) = nearer_of first (record { time = deadline; place = place; lapses = true })
+nearer_at first place (Waiting until) = nearer_of first (record { time = until; place = place; lapses = false })
+
+-- ---- timers in order
 
 -- The time hasn't come at the clock (own).
 abbrev pub is_later : ℕ → Timer → Bool

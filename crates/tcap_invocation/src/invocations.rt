@@ -39,8 +39,8 @@ const IDENTIFIERS: usize = 256;
 /// - Requests of the TC-user and of the dialogue: `add`, `add_free`, `sent`, `give_up`, `free_wait`, `close_all`, or
 ///   one by one `open_count` and `close_one`; `renew` for the next dialogue.
 /// - Answers that were received: `on_result`, `on_error`, `on_reject`.
-/// - Time: `lapse`, or one by one `due_count`, `first_due`, `lapse_one` and `free_due`; `next_timer` tells
-///   when it next changes something.
+/// - Time: `lapse`; or timer by timer `expire_first`; or one by one `due_count`, `first_due`, `lapse_one` and
+///   `free_due`. `next_timer` tells when it next changes something.
 /// - Getters: `is_open`, `in_use`, `is_above_all`, `capacity`.
 ///
 /// Moments and lengths of time are in milliseconds by the caller's clock. A contract sees the length of

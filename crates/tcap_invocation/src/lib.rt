@@ -15,5 +15,5 @@ pub use class::Class;
 pub use fault::AddFault;
 pub use invocations::Invocations;
 pub use invocations::answers::Verdict;
-pub use invocations::lapse::Lapse;
+pub use invocations::lapse::{Expiry, Lapse};
 pub use stage::{MAX_MOMENT, Stage};

@@ -8,4 +8,4 @@ mod portion;
 mod state;
 
 pub use portion::{AarqParts, BeginVerdict, PortionVerdict, judge_begin, judge_portion, judge_uni};
-pub use state::{Phase, State};
+pub use state::{After, Phase, State};

@@ -2,8 +2,9 @@
 
 ghost use Rattle.std.specs.Prelude.{◌≡◌};
 ghost use Rattle.tcap_model.specs.Procedures.States.{has_peer, is_fresh};
-ghost use Rattle.tcap_model.specs.Words.State.{State as Standing, activated, is_live, peer_by, peer_of};
-ghost use Rattle.tcap_reception.specs.StateViews.{phase_view, state_of};
+ghost use Rattle.tcap_model.specs.Words.State.{State as model, activated, is_live, peer_by, peer_of};
+ghost use Rattle.tcap_reception.specs.declared.state.After.TheVariants.{Open, Over};
+ghost use Rattle.tcap_reception.specs.StateViews.{is_over, phase_view, state_of};
 
 use tcap_pdu::TransId;
 
@@ -23,6 +24,8 @@ use tcap_pdu::TransId;
 /// Sent and Active  by an End, an Abort, a faulty message, an abnormal dialogue portion, the idle limit
 /// each             by a prearranged finish, by u_abort of the user
 /// ```
+///
+/// Each event is a method of `Phase`, which says by `After` whether the dialogue is over.
 #[derive(Clone, Copy, Debug, PartialEq, Eq)]
 pub enum State {
     /// No message was sent or received: Idle.
@@ -46,6 +49,122 @@ pub enum Phase {
     Received(TransId),
     /// Active, with the identifier of the first message of the peer.
     Active(TransId),
+}
+
+/// What a dialogue is after an event.
+#[derive(Clone, Copy, Debug, PartialEq, Eq)]
+pub enum After {
+    /// It stands, in the state that it has then.
+    Open,
+    /// It is over, and has no state any more.
+    Over,
+}
+
+impl After {
+    /// Whether the dialogue is over.
+    #[inline(always)]
+    pub fn is_over(self) -> bool
+        ensures { result ≡ is_over self }
+    {
+        match self {
+            After::Open => false,
+            After::Over => true,
+        }
+    }
+}
+
+// The events, in the order of the diagram: each says what the dialogue is after it. Whether the event may come in the
+// state is judged before.
+impl Phase {
+    /// TC-BEGIN request: the Begin goes out.
+    #[inline(always)]
+    pub fn send_begin(&mut self) -> After
+        ensures state { phase_view self.new ≡ model.sent }
+        ensures after { result ≡ Open }
+    {
+        *self = Phase::Sent;
+        After::Open
+    }
+
+    /// A Begin, which creates the dialogue.
+    #[inline(always)]
+    pub fn receive_begin(&mut self, origin: &TransId) -> After
+        ensures state { phase_view self.new ≡ model.received origin.now }
+        ensures after { result ≡ Open }
+    {
+        *self = Phase::Received(origin.copied());
+        After::Open
+    }
+
+    /// TC-CONTINUE request: the first answer makes the dialogue Active.
+    #[inline(always)]
+    pub fn send_continue(&mut self) -> After
+        ensures state { phase_view self.new ≡ activated (phase_view self.old) }
+        ensures after { result ≡ Open }
+    {
+        if let Phase::Received(peer) = self {
+            *self = Phase::Active(peer.copied());
+        }
+        After::Open
+    }
+
+    /// A Continue: the peer that is known stays (Q.774, Transaction state machine).
+    #[inline(always)]
+    pub fn receive_continue(&mut self, origin: &TransId) -> After
+        ensures state { phase_view self.new ≡ model.active (peer_by (phase_view self.old) origin.now) }
+        ensures after { result ≡ Open }
+    {
+        *self = Phase::Active(self.peer_or(origin).copied());
+        After::Open
+    }
+
+    /// TC-UNI request: the dialogue was there for it alone.
+    #[inline(always)]
+    pub fn send_uni(&self) -> After
+        ensures { result ≡ Over }
+    {
+        After::Over
+    }
+
+    /// TC-END request, basic or prearranged.
+    #[inline(always)]
+    pub fn send_end(&self) -> After
+        ensures { result ≡ Over }
+    {
+        After::Over
+    }
+
+    /// TC-U-ABORT request.
+    #[inline(always)]
+    pub fn send_abort(&self) -> After
+        ensures { result ≡ Over }
+    {
+        After::Over
+    }
+
+    /// An End.
+    #[inline(always)]
+    pub fn receive_end(&self) -> After
+        ensures { result ≡ Over }
+    {
+        After::Over
+    }
+
+    /// An Abort.
+    #[inline(always)]
+    pub fn receive_abort(&self) -> After
+        ensures { result ≡ Over }
+    {
+        After::Over
+    }
+
+    /// The provider here aborts: a faulty message, an abnormal dialogue portion, the idle limit.
+    #[inline(always)]
+    pub fn abort(&self) -> After
+        ensures { result ≡ Over }
+    {
+        After::Over
+    }
 }
 
 impl Phase {
@@ -109,23 +228,5 @@ impl Phase {
             Phase::Fresh | Phase::Sent => origin,
             Phase::Received(peer) | Phase::Active(peer) => peer,
         }
-    }
-
-    /// The state after an accepted `go_on`: the first answer makes the dialogue Active.
-    pub fn activated(&self) -> Phase
-        ensures { phase_view result ≡ activated (phase_view self.now) }
-    {
-        match self {
-            Phase::Fresh => Phase::Fresh,
-            Phase::Sent => Phase::Sent,
-            Phase::Received(peer) | Phase::Active(peer) => Phase::Active(peer.copied()),
-        }
-    }
-
-    /// The state after a Continue: the peer that is known stays (Q.774, Transaction state machine).
-    pub fn continued(&self, origin: &TransId) -> Phase
-        ensures { phase_view result ≡ Standing.active (peer_by (phase_view self.now) origin.now) }
-    {
-        Phase::Active(self.peer_or(origin).copied())
     }
 }

@@ -2,7 +2,7 @@
 
 // Its calls are inlined: apart they moved the address twice more, 60 instructions a turn of `register`.
 
-ghost use Rattle.std.specs.Prelude.{◌≡◌, ◌≤◌, ◌<◌, [], IfOk, OnOk, OnErr, length};
+ghost use Rattle.std.specs.Prelude.{◌≡◌, ◌≤◌, ◌<◌, ◌↔◌, [], IfOk, IsTrue, OnOk, OnErr, length};
 ghost use Rattle.tcap_dialogue.specs.KeptOctets.{IsKept, kept_octets, most_in_place};
 
 use ber_core::OutOfMemory;
@@ -107,6 +107,15 @@ impl<A: Allocator + Copy> KeptAddress<A> {
         Ok(())
     }
 
+    /// Becomes a copy of an address that takes no memory, and gives back the memory of the one before.
+    #[inline(always)]
+    pub(super) fn set_short(&mut self, address: &Address)
+        requires { length address.now ≤ most_in_place }
+        ensures { self.new ≡ address.now }
+    {
+        self.held = in_place(address.octets());
+    }
+
     /// The address that is kept, for a message.
     #[inline(always)]
     pub(super) fn to_address(&self) -> Address
@@ -114,6 +123,14 @@ impl<A: Allocator + Copy> KeptAddress<A> {
     {
         Address::new(self.octets()).unwrap()
     }
+}
+
+/// Whether an address takes no memory.
+#[inline(always)]
+pub(super) fn is_short(address: &Address) -> bool
+    ensures { IsTrue result ↔ (length address.now ≤ most_in_place) }
+{
+    address.octets().len() <= MOST_IN_PLACE
 }
 
 /// So few octets, in place.

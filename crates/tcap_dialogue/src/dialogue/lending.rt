@@ -163,9 +163,9 @@ impl<A: Allocator + Copy> Dialogue<A> {
         if has_components(frame) {
             spares.lend_queue(&mut self.queue);
         }
-        let over = self.receive_message(from, frame, clock, sink);
+        let after = self.receive_message(from, frame, clock, sink);
         self.leave_queue(spares);
-        over
+        Ok(after?.is_over())
     }
 
     /// Leaves its memory to those that come: it is over, and not to be used any more.

@@ -6,7 +6,7 @@ ghost use Rattle.tcap_primitives.specs.OutputViews.{cause_view};
 ghost use Rattle.tcap_reception.specs.PortionViews.{portion_view, PortionIn};
 ghost use Rattle.tcap_primitives.specs.QueueViews.{queue_view};
 ghost use Rattle.tcap_primitives.specs.Slices.{AllInPlace, PartsLieIn, LieInPlace};
-ghost use Rattle.tcap_reception.specs.StateViews.{phase_view};
+ghost use Rattle.tcap_reception.specs.StateViews.{is_over, phase_view};
 ghost use Rattle.tcap_dialogue.specs.KeptOctets.{most_in_place};
 ghost use Rattle.tcap_model.specs.Words.State.State.{sent};
 ghost use Rattle.tcap_dialogue.specs.StepViews.{StepsTo, at_clock, outcome, stepped};
@@ -28,7 +28,7 @@ use std::alloc::Allocator;
 use tcap_address::Address;
 use tcap_pdu::{Frame, TransId};
 use tcap_primitives::{Indication, Sink, SinkKind, Why};
-use tcap_reception::{Phase, PortionVerdict, judge_portion};
+use tcap_reception::{After, Phase, PortionVerdict, judge_portion};
 
 /// The sender of a Continue to a dialogue in Sent is kept; later ones are not (our own).
 fn keep_sender<A: Allocator + Copy>(
@@ -59,9 +59,9 @@ impl<A: Allocator + Copy> Dialogue<A> {
         components: &'m [u8],
         clock: u64,
         sink: &mut Sink<'m, A, K>,
-    ) -> Result<(), OutOfMemory>
+    ) -> Result<After, OutOfMemory>
         requires { clock ≤ moment_limit }
-        ensures ok { OnOk result (StepsTo sink.old.outputs sink.new.outputs false self.new
+        ensures ok { IfOk result (λ after. StepsTo sink.old.outputs sink.new.outputs (is_over after) self.new
             (outcome (continued_by (at_clock clock) self.old from.now origin.now
             (normal (option_copied context.entry) info.now) (walked_in clock self.old components.now)))) }
         ensures err { OnErr result (self.new ≡ self.old) }
@@ -87,9 +87,8 @@ impl<A: Allocator + Copy> Dialogue<A> {
             &mut self.queue,
             sink,
         );
-        self.phase = self.phase.continued(origin);
         self.touched = clock;
-        Ok(())
+        Ok(self.phase.receive_continue(origin))
     }
 
     /// An End whose dialogue portion is as it should be: it is told with its components, and then the
@@ -134,7 +133,7 @@ impl<A: Allocator + Copy> Dialogue<A> {
         Ok(())
     }
 
-    /// A Continue (Q.774, Dialogue continuation): whether the dialogue is over.
+    /// A Continue (Q.774, Dialogue continuation).
     fn receive_continue<'m, K: SinkKind>(
         &mut self,
         from: &Address,
@@ -143,9 +142,9 @@ impl<A: Allocator + Copy> Dialogue<A> {
         components: &'m [u8],
         clock: u64,
         sink: &mut Sink<'m, A, K>,
-    ) -> Result<bool, OutOfMemory>
+    ) -> Result<After, OutOfMemory>
         requires { clock ≤ moment_limit }
-        ensures ok { IfOk result (λ over. StepsTo sink.old.outputs sink.new.outputs over
+        ensures ok { IfOk result (λ after. StepsTo sink.old.outputs sink.new.outputs (is_over after)
             self.new (outcome (continued_by (at_clock clock) self.old from.now origin.now
             (portion_verdict self.old.standing.state self.old.standing.context (option_copied dialogue.entry))
             (walked_in clock self.old components.now)))) }
@@ -157,12 +156,11 @@ impl<A: Allocator + Copy> Dialogue<A> {
     {
         match judge_portion(&self.phase, &self.context, dialogue) {
             PortionVerdict::Normal { context, info } => {
-                self.continue_normal(from, origin, context, info, components, clock, sink)?;
-                Ok(false)
+                self.continue_normal(from, origin, context, info, components, clock, sink)
             }
             PortionVerdict::Abnormal => {
                 self.abort_abnormal(from, origin, sink)?;
-                Ok(true)
+                Ok(self.phase.abort())
             }
         }
     }
@@ -193,16 +191,16 @@ impl<A: Allocator + Copy> Dialogue<A> {
         }
     }
 
-    /// `take_frame`, message by message: whether the dialogue is over.
+    /// `take_frame`, message by message.
     pub(super) fn receive_message<'m, K: SinkKind>(
         &mut self,
         from: &Address,
         frame: &Frame<'m>,
         clock: u64,
         sink: &mut Sink<'m, A, K>,
-    ) -> Result<bool, OutOfMemory>
+    ) -> Result<After, OutOfMemory>
         requires { clock ≤ moment_limit }
-        ensures ok { IfOk result (λ over. StepsTo sink.old.outputs sink.new.outputs over
+        ensures ok { IfOk result (λ after. StepsTo sink.old.outputs sink.new.outputs (is_over after)
             self.new (outcome (framed (at_clock clock) self.old from.now (message frame.now)))) }
         ensures err { OnErr result (self.new ≡ self.old) }
         ensures still { OnErr result (sink.new.outputs ≡ sink.old.outputs) }
@@ -224,13 +222,13 @@ impl<A: Allocator + Copy> Dialogue<A> {
                 ..
             } => {
                 self.receive_end(*dialogue, components, clock, sink)?;
-                Ok(true)
+                Ok(self.phase.receive_end())
             }
             Frame::Abort { reason, .. } => {
                 self.receive_abort(reason, sink)?;
-                Ok(true)
+                Ok(self.phase.receive_abort())
             }
-            Frame::Uni { .. } | Frame::Begin { .. } => Ok(false),
+            Frame::Uni { .. } | Frame::Begin { .. } => Ok(After::Open),
         }
     }
 
@@ -257,9 +255,12 @@ impl<A: Allocator + Copy> Dialogue<A> {
             (dialogue_slice frame.now) (unwrap_or (components_slice frame.now) other) s.outputs.items) }
     {
         let mut sink = Sink::vector(*self.queue.octets.allocator());
-        let over = self.receive_message(from, frame, clock, &mut sink)?;
+        let after = self.receive_message(from, frame, clock, &mut sink)?;
         let outputs = sink.into_vector();
-        Ok(Step { outputs, over })
+        Ok(Step {
+            outputs,
+            over: after.is_over(),
+        })
     }
 
     /// A faulty message names the dialogue: TC-P-ABORT with this P-Abort cause, 0 to 127, and the
@@ -281,7 +282,7 @@ impl<A: Allocator + Copy> Dialogue<A> {
         self.abort_provider(Why::Cause(cause), &mut sink)?;
         Ok(Step {
             outputs: sink.into_vector(),
-            over: true,
+            over: self.phase.abort().is_over(),
         })
     }
 }

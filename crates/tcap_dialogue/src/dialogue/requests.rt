@@ -29,6 +29,7 @@ ghost use Rattle.tcap_model.specs.Table.TableMove.{DialogueEvent, table_move};
 use super::{Dialogue, Step};
 use std::alloc::{Allocator, Global};
 use tcap_primitives::{Fault, Output, Request, Sink, SinkKind};
+use tcap_reception::After;
 
 /// What is answered to a request.
 #[derive(Debug, Drop, PartialEq, Eq)]
@@ -159,9 +160,9 @@ fn of_cancel(answer: Result<u64, Fault>) -> Result<Accepted, Fault>
 
 /// The answer to a request of dialogue handling.
 #[inline(always)]
-fn of_step(answer: Result<bool, Fault>) -> Result<Accepted, Fault>
+fn of_step(answer: Result<After, Fault>) -> Result<Accepted, Fault>
     ensures { (before after : List told.Output) (o : Outcome) (old new : model.Dialogue)
         → StepsInto before after answer o old new → AsksInto before after result o old new }
 {
-    Ok(Accepted::Step(answer?))
+    Ok(Accepted::Step(answer?.is_over()))
 }

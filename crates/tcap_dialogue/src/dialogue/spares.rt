@@ -103,11 +103,10 @@ impl<A: Allocator + Copy> Spares<A> {
             octets: Vec::new(alloc),
             parts: Vec::new(alloc),
         };
-        let left = mem::replace(queue, empty);
-        if has_place(&self.queues) && is_small(&left) {
-            self.queues.push_reserved(left);
+        if has_place(&self.queues) && is_small(queue) {
+            self.queues.push_reserved(mem::replace(queue, empty));
         } else {
-            give_back(left);
+            give_back(mem::replace(queue, empty));
         }
     }
 

@@ -1,17 +1,34 @@
 //! What lapses with time, invocation by invocation, and how a dialogue ends that stays idle.
 
-ghost use Rattle.std.specs.Prelude.{◌≡◌, ◌≢◌, ◌≤◌, [], ◌∷◌, length, IfSome, IfOk, OnOk, OnErr};
-ghost use Rattle.tcap_dialogue.specs.Timers.{earliest};
+ghost use Rattle.std.specs.Prelude.{◌≡◌, ◌≢◌, ◌≤◌, ◌+◌, ◌++◌, [], ◌∷◌, length, IfSome, IfOk, OnOk, OnErr};
+ghost use Rattle.tcap_dialogue.specs.Timers.{after_timer, earliest, expiry_by, first_by, idle_by, lapse_told, timer_of};
 ghost use Rattle.tcap_invocation.specs.Closing.{ended_at, first_ended_at, after_close_one};
+ghost use Rattle.tcap_invocation.specs.Expiries.{RunsOut, after_expiry, lapse_in};
 ghost use Rattle.tcap_invocation.specs.Lapses.{due_at, told_at, first_due_at, lapse_at, after_lapse, after_lapse_one, after_free_due};
 ghost use Rattle.tcap_invocation.specs.Stage.{moment_limit};
 ghost use Rattle.tcap_invocation.specs.Timers.{next_timer_at};
 ghost use Rattle.tcap_model.specs.Table.Dialogue.{idle_end, touched_at, with_invocations};
+ghost use Rattle.tcap_model.specs.Table.TableMove.{ended_told};
+ghost use Rattle.tcap_model.specs.Words.Output as model;
+ghost use Rattle.tcap_model.specs.Words.Output.{AbortCause, DialogueIndication};
 
 use super::Dialogue;
+use super::ending::tell_ended;
 use ber_core::OutOfMemory;
 use std::alloc::Allocator;
-use tcap_invocation::Lapse;
+use tcap_invocation::{Expiry, Lapse};
+use tcap_primitives::{Indication, Sink, SinkKind, Why};
+
+/// What a timer of a dialogue is of.
+#[derive(Clone, Copy, Debug, PartialEq, Eq)]
+pub enum Timer {
+    /// An invocation lapses (Q.774, Invocation timer).
+    Lapse,
+    /// Identifiers are free that have waited for a Reject (Q.774, Reject timer).
+    Wait,
+    /// The dialogue has been idle too long (own).
+    Idle,
+}
 
 /// The earlier of two moments, of which each may be absent.
 fn earliest(first: Option<u64>, second: Option<u64>) -> Option<u64>
@@ -59,6 +76,54 @@ impl<A: Allocator + Copy> Dialogue<A> {
         }
     }
 
+    /// The moment at which the dialogue had been idle too long, if the clock has reached it.
+    fn idle_by(&self, clock: u64) -> Option<u64>
+        ensures { result ≡ idle_by clock self.now }
+    {
+        let time = self.idle_at()?;
+        if time <= clock { Some(time) } else { None }
+    }
+
+    /// The first timer runs out, if its moment is at most the clock, which is at most 2^62: an invocation lapses, which
+    /// is told (TC-L-CANCEL indication), or each identifier whose wait is over then is free, or the end of the dialogue,
+    /// which has been idle too long, is put off as by `touch`. At one moment the idle limit comes last. What it was of,
+    /// or nothing where no moment is reached. There is room for all that lapses by the clock. It takes no memory.
+    pub fn expire_first<'m, K: SinkKind>(
+        &mut self,
+        clock: u64,
+        sink: &mut Sink<'m, A, K>,
+    ) -> Option<Timer>
+        requires clock { clock ≤ moment_limit }
+        requires places { length (told_at clock self.old.invocations.rows) ≤ sink.old.places }
+        ensures timer { result ≡ timer_of (expiry_by clock self.old) (idle_by clock self.old) }
+        ensures dialogue { self.new ≡ after_timer clock (expiry_by clock self.old) (idle_by clock self.old) self.old }
+        ensures told { sink.new.outputs ≡ sink.old.outputs
+            ++ lapse_told self.old.standing.identifier (lapse_in (expiry_by clock self.old)) }
+        ensures places { sink.old.places ≤ sink.new.places + length
+            (lapse_told self.old.standing.identifier (lapse_in (expiry_by clock self.old))) }
+        // What lapses and what is left from then on is the same.
+        ensures rest { RunsOut (first_by clock self.old) (expiry_by clock self.old) self.old.invocations
+            (after_expiry self.old.invocations (first_by clock self.old) (expiry_by clock self.old)) }
+    {
+        let idle = self.idle_by(clock);
+        match self.invocations.expire_first(idle.unwrap_or(clock)) {
+            Some(Expiry::Lapse(lapse)) => {
+                sink.tell(Indication::Lapsed {
+                    dialogue: self.identifier,
+                    number: lapse.number,
+                    id: lapse.id,
+                });
+                Some(Timer::Lapse)
+            }
+            Some(Expiry::Wait) => Some(Timer::Wait),
+            None => {
+                idle?;
+                self.touched = clock;
+                Some(Timer::Idle)
+            }
+        }
+    }
+
     /// The idle timer starts anew at this moment of the clock, at most 2^62: for a caller that puts its
     /// end off until all lapses of the moment are told. It takes no memory (own).
     pub fn touch(&mut self, clock: u64)
@@ -86,6 +151,23 @@ impl<A: Allocator + Copy> Dialogue<A> {
             ≡ one ∷ ended_at self.new.invocations.rows) }
     {
         self.invocations.close_one()
+    }
+
+    /// The dialogue has been idle too long and is over: TC-P-ABORT, and each invocation that is left, by number; there
+    /// is room for all. It takes no memory (own).
+    pub fn abort_idle<'m, K: SinkKind>(&mut self, sink: &mut Sink<'m, A, K>)
+        requires { 1 + length (ended_at self.old.invocations.rows) ≤ sink.old.places }
+        ensures told { sink.new.outputs ≡ sink.old.outputs
+            ++ model.Output.dialogue (DialogueIndication.p_abort self.old.standing.identifier AbortCause.idle)
+            ∷ ended_told self.old.standing.identifier self.old.invocations }
+        ensures places { sink.old.places
+            ≤ sink.new.places + (1 + length (ended_at self.old.invocations.rows)) }
+    {
+        sink.tell(Indication::PAbort {
+            dialogue: self.identifier,
+            why: Why::Idle,
+        });
+        tell_ended(self.identifier, &mut self.invocations, sink);
     }
 
     /// How many Sent invocations have a deadline at most the clock.

@@ -37,7 +37,8 @@ pub(super) fn deliver_in<'m, A: Allocator + Copy, K: SinkKind>(
     ensures kept { KeepsOutputs sink.old.outputs sink.new.outputs }
     ensures still { OnErr result (sink.new.outputs ≡ sink.old.outputs) }
 {
-    // It stands, as the caller has seen.
+    // It stands, as the caller has seen. Handed on, it would hold the table, which `settle` changes; the table remembers
+    // its last find, so this one is a comparison.
     let dialogue = table.rows.get_mut(identifier).unwrap();
     let is_over = dialogue.take_frame_with(&mut table.spares, from, frame, clock, sink)?;
     let timer = timer_after(dialogue, is_over);
@@ -69,7 +70,7 @@ pub(super) fn abort_in<'m, A: Allocator + Copy, K: SinkKind>(
         ++ sent_if_any from.now (fault_abort fault origin)) sink.new.outputs) }
     ensures still { OnErr result (sink.new.outputs ≡ sink.old.outputs) }
 {
-    // It stands, as the caller has seen.
+    // It stands, as the caller has seen; see `deliver_in`.
     let dialogue = table.rows.get_mut(identifier).unwrap();
     dialogue.take_faulty(from, origin, fault, sink)?;
     settle(&mut table.rows, &mut table.spares, identifier, true, None);

@@ -1,7 +1,8 @@
 //! The requests of dialogue handling (Q.771, Dialogue handling).
 
 ghost use Rattle.std.specs.Prelude.{◌≡◌, option_copied, OnErr};
-ghost use Rattle.tcap_primitives.specs.RequestViews.{ending_view, reason_view};
+ghost use Rattle.tcap_primitives.specs.RequestViews.{ending_view, reason_view, request_view};
+ghost use Rattle.tcap_engine.specs.AnswerKinds.{AnswerKind, kind_of};
 ghost use Rattle.tcap_engine.specs.StepForm.{EngineAnswers, outputs_answer};
 ghost use Rattle.tcap_engine.specs.HistoryForm.{Stands};
 ghost use Rattle.tcap_model.specs.Table.EngineMove.{engine_move};
@@ -10,11 +11,11 @@ ghost use Rattle.tcap_model.specs.Words.Request as model;
 ghost use Rattle.tcap_model.specs.Words.Request.{DialogueRequest};
 
 use super::Engine;
-use super::request_answers::outputs_of;
+use super::request_answers::told;
 use std::alloc::Allocator;
 use tcap_dialogue::{
     AbortRequest, AbortWhy, Address, BeginRequest, ContinueRequest, EndRequest, Ending, Fault,
-    Output, Request, UniRequest,
+    Output, Request, Sink, UniRequest,
 };
 
 /// In all of these `context` is the contents octets of the application context name, and `info` the user
@@ -39,7 +40,7 @@ impl<A: Allocator + Copy> Engine<A> {
             (DialogueRequest.uni to.now (option_copied context.entry) info.now))) self.old self.new }
         ensures err { OnErr result (self.new ≡ self.old) }
     {
-        outputs_of(self.request(dialogue, &Request::Uni(UniRequest { to, context, info })))
+        self.ask_step(dialogue, &Request::Uni(UniRequest { to, context, info }))
     }
 
     /// TC-BEGIN request: the queue goes out in a Begin to this address, which the dialogue keeps, with an
@@ -61,10 +62,10 @@ impl<A: Allocator + Copy> Engine<A> {
             (DialogueRequest.begin to.now (option_copied context.entry) info.now))) self.old self.new }
         ensures err { OnErr result (self.new ≡ self.old) }
     {
-        outputs_of(self.request(
+        self.ask_step(
             dialogue,
             &Request::Begin(BeginRequest { to, context, info }),
-        ))
+        )
     }
 
     /// TC-CONTINUE request: the queue goes out in a Continue to the peer's address. In Received an AARQ is
@@ -85,10 +86,10 @@ impl<A: Allocator + Copy> Engine<A> {
             (model.Request.dialogue (DialogueRequest.go_on (option_copied context.entry) info.now))) self.old self.new }
         ensures err { OnErr result (self.new ≡ self.old) }
     {
-        outputs_of(self.request(
+        self.ask_step(
             dialogue,
             &Request::Continue(ContinueRequest { context, info }),
-        ))
+        )
     }
 
     /// TC-END request: a basic end sends the queue in an End to the peer's address, a prearranged one nothing;
@@ -114,7 +115,7 @@ impl<A: Allocator + Copy> Engine<A> {
             context,
             info,
         };
-        outputs_of(self.request(dialogue, &Request::End(end)))
+        self.ask_step(dialogue, &Request::End(end))
     }
 
     /// TC-U-ABORT request: an Abort goes out to the peer's address, if the peer knows the dialogue; this is
@@ -132,6 +133,26 @@ impl<A: Allocator + Copy> Engine<A> {
             (model.Request.dialogue (DialogueRequest.u_abort (reason_view why) info.now))) self.old self.new }
         ensures err { OnErr result (self.new ≡ self.old) }
     {
-        outputs_of(self.request(dialogue, &Request::Abort(AbortRequest { why, info })))
+        self.ask_step(dialogue, &Request::Abort(AbortRequest { why, info }))
+    }
+
+    /// A request of dialogue handling: what is sent and told.
+    // Each named call has its own copy, in which the request is known and the match on it folds away.
+    #[inline(always)]
+    fn ask_step<'m>(
+        &mut self,
+        dialogue: u32,
+        request: &Request<'_>,
+    ) -> Result<Vec<Output<'m, A>, A>, Fault>
+        requires { kind_of (request_view request.now) ≡ AnswerKind.outputs }
+        ensures moves { EngineAnswers outputs_answer result
+            (engine_move self.old (Event.on_dialogue dialogue (request_view request.now))) self.old self.new }
+        ensures stands { Stands outputs_answer result
+            (Event.on_dialogue dialogue (request_view request.now)) self.old self.new }
+        ensures err { OnErr result (self.new ≡ self.old) }
+    {
+        let mut sink = Sink::vector(self.table.allocator());
+        told(self.request_with(dialogue, request, &mut sink))?;
+        Ok(sink.into_vector())
     }
 }

@@ -5,33 +5,10 @@ ghost use Rattle.std.specs.List.{flat_map};
 ghost use Rattle.std.specs.Map.{remove_entry};
 ghost use Rattle.tcap_engine.specs.IdleDialogues.{AreDistinct, idle_end_in, without_all};
 ghost use Rattle.tcap_engine.specs.DialogueEntries.{AreFrom};
-ghost use Rattle.tcap_invocation.specs.Closing.{ended_at};
-ghost use Rattle.tcap_model.specs.Table.TableMove.{ended_told};
 
 use crate::dialogues::Dialogues;
 use std::alloc::Allocator;
-use tcap_dialogue::{Dialogue, Indication, Sink, SinkKind, Why};
-
-/// Tells each invocation that is left of a dialogue that is over, by number; there is room for all.
-fn tell_ended<'m, A: Allocator + Copy, K: SinkKind>(
-    dialogue: &mut Dialogue<A>,
-    identifier: u32,
-    sink: &mut Sink<'m, A, K>,
-)
-    requires { length (ended_at dialogue.old.invocations.rows) ≤ sink.old.places }
-    ensures told { sink.new.outputs ≡ sink.old.outputs
-        ++ ended_told identifier dialogue.old.invocations }
-    ensures places { sink.old.places ≤ sink.new.places
-        + length (ended_at dialogue.old.invocations.rows) }
-{
-    while let Some((number, id)) = dialogue.close_one() {
-        sink.tell(Indication::Ended {
-            dialogue: identifier,
-            number,
-            id,
-        });
-    }
-}
+use tcap_dialogue::{Sink, SinkKind};
 
 /// The dialogue of an identifier is over (TC-P-ABORT indication); there is room for all that is told.
 fn end_one<'m, A: Allocator + Copy, K: SinkKind>(
@@ -50,11 +27,7 @@ fn end_one<'m, A: Allocator + Copy, K: SinkKind>(
     let Some(mut dialogue) = table.rows.remove(identifier) else {
         return;
     };
-    sink.tell(Indication::PAbort {
-        dialogue: identifier,
-        why: Why::Idle,
-    });
-    tell_ended(&mut dialogue, identifier, sink);
+    dialogue.abort_idle(sink);
 }
 
 /// The dialogues of these identifiers are over, earliest first; there is room for all that is told.

@@ -77,9 +77,9 @@ impl<A: Allocator + Copy> Engine<A> {
         if bytes.len() > MAX_MESSAGE {
             return self.drop_message(DropWhy::TooLong, sink);
         }
-        match read_frame(bytes) {
-            Ok(frame) => self.take_message(from, &frame, sink),
-            Err(fault) => self.take_faulty(from, bytes, fault, sink),
+        match &read_frame(bytes) {
+            Ok(frame) => self.take_message(from, frame, sink),
+            Err(fault) => self.take_faulty(from, bytes, *fault, sink),
         }
     }
 

@@ -5,7 +5,7 @@
 ghost use Rattle.std.specs.Prelude.{◌≡◌, List, IfOk, OnErr};
 ghost use Rattle.tcap_dialogue.specs.AskViews.{Appends};
 ghost use Rattle.tcap_dialogue.specs.RequestForm.{numbered, queued_done, gave_up};
-ghost use Rattle.tcap_engine.specs.StepForm.{EngineAnswers, outputs_answer, since_answer};
+ghost use Rattle.tcap_engine.specs.StepForm.{EngineAnswers, since_answer};
 ghost use Rattle.tcap_engine.specs.AnswerKinds.{AnswerKind, MayAnswer};
 ghost use Rattle.tcap_engine.specs.RequestInTable.{accepted_answer, asked_answer};
 ghost use Rattle.tcap_engine.specs.HistoryForm.{StandsAfter};
@@ -17,7 +17,7 @@ ghost use Rattle.tcap_model.specs.Words.Output as model;
 ghost use Rattle.tcap_primitives.specs.SinkViews.{KeepsOutputs, told_since};
 
 use std::alloc::Allocator;
-use tcap_dialogue::{Accepted, Asked, Fault, Output};
+use tcap_dialogue::{Accepted, Asked, Fault};
 
 /// The number of a new invocation.
 #[inline(always)]
@@ -49,10 +49,8 @@ pub(super) fn queued_of<A: Allocator + Copy>(
         → StandsAfter asked_answer asked.entry h event new → StandsAfter queued_done result h event new }
     ensures err { (old new : World) → OnErr asked.entry (new ≡ old) → OnErr result (new ≡ old) }
 {
-    match asked? {
-        Asked::Done => Ok(()),
-        Asked::Number(_) | Asked::GivenUp(_) | Asked::Step(_) => unreachable!(),
-    }
+    asked?;
+    Ok(())
 }
 
 /// The number of the invocation that was given up.
@@ -70,24 +68,6 @@ pub(super) fn given_up_of<A: Allocator + Copy>(
     match asked? {
         Asked::GivenUp(number) => Ok(number),
         Asked::Number(_) | Asked::Done | Asked::Step(_) => unreachable!(),
-    }
-}
-
-/// What is sent and told.
-#[inline(always)]
-pub(super) fn outputs_of<'m, A: Allocator + Copy>(
-    asked: Result<Asked<'m, A>, Fault>,
-) -> Result<Vec<Output<'m, A>, A>, Fault>
-    requires { IfOk asked (λ a. MayAnswer AnswerKind.outputs (asked_answer a)) }
-    ensures moves { (m : EngineMoved) (old new : World) → EngineAnswers asked_answer asked.entry m old new
-        → EngineAnswers outputs_answer result m old new }
-    ensures stands { (h : History) (event : Event) (new : World)
-        → StandsAfter asked_answer asked.entry h event new → StandsAfter outputs_answer result h event new }
-    ensures err { (old new : World) → OnErr asked.entry (new ≡ old) → OnErr result (new ≡ old) }
-{
-    match asked? {
-        Asked::Step(step) => Ok(step.outputs),
-        Asked::Number(_) | Asked::Done | Asked::GivenUp(_) => unreachable!(),
     }
 }
 

@@ -2,15 +2,20 @@
 
 ghost use Rattle.std.specs.Prelude.{◌≡◌, ◌↔◌, ◌≤◌, ◌≢◌, ◌++◌, ◌∷◌, [], length, filter, option_copied, IsTrue, IfOk, OnOk, OnErr, Some};
 ghost use Rattle.std.specs.List.{position_from};
+ghost use Rattle.std.specs.Option.{option_map};
 ghost use Rattle.std.specs.Ordering.{int_eq};
 ghost use Rattle.tcap_invocation.specs.Closing.{ended_at, first_ended_at};
+ghost use Rattle.tcap_invocation.specs.Expiries.{first_expiry_at, rows_after};
 ghost use Rattle.tcap_invocation.specs.Invocations.{AllBelow, AreInOrder, entry_at, without, at_stage, sent_rows};
 ghost use Rattle.tcap_invocation.specs.Lapses.{due_at, told_at, first_due_at, is_held, stays};
+ghost use Rattle.tcap_invocation.specs.Order.{first_of};
 ghost use Rattle.tcap_invocation.specs.Stage.{moment_limit};
+ghost use Rattle.tcap_invocation.specs.Rows.{AreSorted};
+ghost use Rattle.tcap_invocation.specs.TimerList.{IsFirst, lapse_at_time, nearer_at, timers_at};
 ghost use Rattle.tcap_invocation.specs.Timers.{next_timer_at};
 
 use super::closing::ended_of;
-use super::lapse::{Lapse, lapse_of};
+use super::lapse::{Expiry, Lapse, lapse_of};
 use super::{Invocation, Row};
 use crate::stage::Stage;
 use ber_core::OutOfMemory;
@@ -139,6 +144,87 @@ pub(super) fn first_due(rows: &[Row], clock: u64) -> Option<Lapse>
         }
     }
     first
+}
+
+/// The first timer of some rows, and the place of its row.
+#[derive(Clone, Copy)]
+struct First {
+    time: u64,
+    place: usize,
+    /// Whether the row is Sent, so that it lapses then; else it is Waiting.
+    lapses: bool,
+}
+
+/// The first of those found so far and of that of an invocation at this place.
+fn nearer(first: Option<First>, place: usize, entry: &Invocation) -> Option<First>
+    ensures { result ≡ nearer_at first place entry.now.stage }
+{
+    let (time, lapses) = match entry.stage {
+        Stage::Queued(_) => return first,
+        Stage::Sent(deadline) => (deadline, true),
+        Stage::Waiting(until) => (until, false),
+    };
+    let found = First {
+        time,
+        place,
+        lapses,
+    };
+    match first {
+        None => Some(found),
+        Some(first) => Some(if time < first.time { found } else { first }),
+    }
+}
+
+/// The first timer, by its moment, then number.
+fn first_timer<A: Allocator + Copy>(rows: &Vec<Row, A>) -> Option<First>
+    requires { AreInOrder rows.now.items }
+    ensures { IsFirst rows.now.items result (first_of (timers_at rows.now.items)) }
+{
+    let mut first: Option<First> = None;
+    for place in 0..rows.len() {
+        first = nearer(first, place, &rows[place].1);
+    }
+    first
+}
+
+/// Takes out the invocation of the first timer, which lapses.
+fn take_first<A: Allocator + Copy>(rows: &mut Vec<Row, A>, first: First) -> Lapse
+    requires first { IsFirst rows.old.items (Some first) (first_of (timers_at rows.old.items)) }
+    requires sorted { AreSorted rows.old.items }
+    ensures lapse { Some result ≡ option_map lapse_at_time (first_of (timers_at rows.old.items)) }
+    ensures rows { rows.new.items ≡ without rows.old.items result.id }
+{
+    let (id, entry) = rows[first.place];
+    if first.place + 1 == rows.len() {
+        rows.truncate(first.place);
+    } else {
+        rows.remove(first.place);
+    }
+    Lapse {
+        deadline: first.time,
+        number: entry.number,
+        id,
+    }
+}
+
+/// The first timer runs out, if its moment is at most the clock.
+pub(super) fn expire_first<A: Allocator + Copy>(
+    rows: &mut Vec<Row, A>,
+    clock: u64,
+) -> Option<Expiry>
+    requires { AreSorted rows.old.items }
+    ensures expiry { result ≡ first_expiry_at clock rows.old.items }
+    ensures rows { rows.new.items ≡ rows_after clock rows.old.items result }
+{
+    let first = first_timer(rows)?;
+    if clock < first.time {
+        return None;
+    }
+    if !first.lapses {
+        free_due(rows, clock);
+        return Some(Expiry::Wait);
+    }
+    Some(Expiry::Lapse(take_first(rows, first)))
 }
 
 /// Takes out each identifier whose wait is over at the clock.

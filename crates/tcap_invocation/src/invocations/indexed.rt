@@ -3,6 +3,7 @@
 ghost use Rattle.std.specs.Prelude.{◌≡◌, ◌↔◌, ◌≢◌, ◌<◌, ◌≤◌, ◌*◌, ◌++◌, ◌∷◌, [], false, IsTrue, length, min, filter, option_copied, Some, IfOk, OnOk, OnErr};
 ghost use Rattle.tcap_invocation.specs.declared.stage.Stage.TheVariants.{Waiting};
 ghost use Rattle.tcap_invocation.specs.Closing.{ended_at, first_ended_at};
+ghost use Rattle.tcap_invocation.specs.Expiries.{first_expiry_at, rows_after};
 ghost use Rattle.tcap_invocation.specs.Invocations.{AllBelow, entry_at, sent_at, without, at_stage, sent_rows};
 ghost use Rattle.tcap_invocation.specs.Lapses.{due_at, told_at, first_due_at, is_held, stays};
 ghost use Rattle.tcap_invocation.specs.Rows.{AreSorted, IsNew};
@@ -12,7 +13,7 @@ ghost use Rattle.tcap_invocation.specs.Timers.{next_timer_at};
 mod timed;
 
 use super::closing::ended_of;
-use super::lapse::Lapse;
+use super::lapse::{Expiry, Lapse};
 use super::timers::Timers;
 use super::{Invocation, Row};
 use ber_core::OutOfMemory;
@@ -20,7 +21,7 @@ use indexmap::IndexMap;
 use std::alloc::{AllocError, Allocator};
 use std::hash::{BuildHasherDefault, FoldHasher};
 use std::marker::Model;
-use timed::{send_queued, take_in, take_out, wait};
+use timed::{send_queued, take_in, take_out, take_timed, wait};
 
 /// The invocations by their identifiers, in order of number.
 type Entries<A> = IndexMap<i8, Invocation, BuildHasherDefault<FoldHasher>, A>;
@@ -170,6 +171,23 @@ impl<A: Allocator + Copy> Indexed<A> {
             { entry.stage.stays(clock) },
         );
         Ok(told)
+    }
+
+    /// The first timer runs out, if its moment is at most the clock.
+    pub(super) fn expire_first(&mut self, clock: u64) -> Option<Expiry>
+        ensures expiry { result ≡ first_expiry_at clock self.old }
+        ensures rows { self.new ≡ rows_after clock self.old result }
+    {
+        let timer = *self.timers.first()?;
+        if timer.is_later(clock) {
+            return None;
+        }
+        if !timer.lapses {
+            self.free_due(clock);
+            return Some(Expiry::Wait);
+        }
+        take_timed(&mut self.entries, &mut self.timers, timer);
+        Some(Expiry::Lapse(timer.lapse()))
     }
 
     /// Frees each identifier whose wait is over at the clock.

@@ -1,6 +1,7 @@
 //! Invocations whose deadline has come (TC-L-CANCEL indication).
 
 ghost use Rattle.std.specs.Prelude.{◌≡◌, ◌≢◌, ◌<◌, [], ◌∷◌, length, OnOk, OnErr, IfOk, IfSome};
+ghost use Rattle.tcap_invocation.specs.Expiries.{RunsOut, first_expiry_at, after_expiry};
 ghost use Rattle.tcap_invocation.specs.Invocations.{IsSound};
 ghost use Rattle.tcap_invocation.specs.Lapses.{due_at, told_at, first_due_at, lapse_of, lapse_at, after_lapse, after_lapse_one, after_free_due};
 
@@ -19,6 +20,15 @@ pub struct Lapse {
     pub id: i8,
 }
 
+/// What a timer of the invocations of a dialogue is of.
+#[derive(Clone, Copy, Debug, PartialEq, Eq)]
+pub enum Expiry {
+    /// An invocation lapses (Q.774, Invocation timer; TC-L-CANCEL indication).
+    Lapse(Lapse),
+    /// Identifiers are free that have waited for a Reject (Q.774, Reject timer).
+    Wait,
+}
+
 impl<A: Allocator + Copy> Invocations<A> {
     /// The clock is at this moment: takes out each Sent invocation whose deadline is at most the clock,
     /// told by deadline, then number, and untold each identifier whose wait is over by then.
@@ -29,6 +39,27 @@ impl<A: Allocator + Copy> Invocations<A> {
         ensures memory { OnErr result (told_at clock self.old.rows ≢ []) }
     {
         self.rows.lapse(clock)
+    }
+
+    /// The first timer by its moment, then number, runs out, if its moment is at most the clock: the invocation
+    /// lapses, or each identifier whose wait is over at the clock is free. What it was of, or nothing where no moment
+    /// is reached. It takes no memory.
+    pub fn expire_first(&mut self, clock: u64) -> Option<Expiry>
+        ensures expiry { result ≡ first_expiry_at clock self.old.rows }
+        ensures list { self.new ≡ after_expiry self.old clock result }
+        // What lapses and what is left from then on is the same.
+        ensures rest { RunsOut clock result self.old self.new }
+    {
+        self.expire_row(clock)
+    }
+
+    /// `expire_first`, by the rows.
+    fn expire_row(&mut self, clock: u64) -> Option<Expiry>
+        ensures expiry { result ≡ first_expiry_at clock self.old.rows }
+        ensures list { self.new ≡ after_expiry self.old clock result }
+        ensures sound { IsSound self.old }
+    {
+        self.rows.expire_first(clock)
     }
 
     /// How many Sent invocations have a deadline at most the clock.

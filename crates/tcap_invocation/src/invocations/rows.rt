@@ -3,6 +3,7 @@
 ghost use Rattle.std.specs.Prelude.{◌≡◌, ◌↔◌, ◌≤◌, ◌*◌, ◌≢◌, ◌++◌, ◌∷◌, [], None, Some, IsTrue, length, min, filter, option_copied, IfOk, OnOk, OnErr};
 ghost use Rattle.tcap_invocation.specs.declared.stage.Stage.TheVariants.{Waiting};
 ghost use Rattle.tcap_invocation.specs.Closing.{ended_at, first_ended_at};
+ghost use Rattle.tcap_invocation.specs.Expiries.{first_expiry_at, rows_after};
 ghost use Rattle.tcap_invocation.specs.Invocations.{AllBelow, entry_at, sent_at, without, at_stage, sent_rows};
 ghost use Rattle.tcap_invocation.specs.Lapses.{due_at, told_at, first_due_at, is_held, stays};
 ghost use Rattle.tcap_invocation.specs.Rows.{AreSorted, IsNew};
@@ -10,7 +11,7 @@ ghost use Rattle.tcap_invocation.specs.Stage.{moment_limit};
 ghost use Rattle.tcap_invocation.specs.Timers.{next_timer_at};
 
 use super::indexed::Indexed;
-use super::lapse::Lapse;
+use super::lapse::{Expiry, Lapse};
 use super::{Invocation, Row, few};
 use crate::stage::Stage;
 use ber_core::OutOfMemory;
@@ -113,6 +114,9 @@ impl<A: Allocator + Copy> Rows<A> {
     }
 
     /// Takes an invocation out.
+    // Apart: so a received result, which mostly takes none out, is small enough for the toolchain to inline, 10 to 30
+    // instructions a step.
+    #[inline(never)]
     pub(super) fn take_out(&mut self, id: &i8, entry: &Invocation)
         requires { entry_at self.old id.now ≡ Some entry.now }
         ensures { self.new ≡ without self.old id.now }
@@ -187,6 +191,19 @@ impl<A: Allocator + Copy> Rows<A> {
         match &mut self.many {
             None => few::lapse(&mut self.few, clock),
             Some(many) => many.lapse(clock),
+        }
+    }
+
+    /// The first timer runs out, if its moment is at most the clock.
+    pub(super) fn expire_first(&mut self, clock: u64) -> Option<Expiry>
+        ensures expiry { result ≡ first_expiry_at clock self.old }
+        ensures rows { self.new ≡ rows_after clock self.old result }
+        // What all rows keep.
+        ensures sorted { AreSorted self.old }
+    {
+        match &mut self.many {
+            None => few::expire_first(&mut self.few, clock),
+            Some(many) => many.expire_first(clock),
         }
     }
 

@@ -3,13 +3,15 @@
 ghost use Rattle.std.specs.Prelude.{◌≡◌, ◌<◌, ◌≤◌, [], List, length, filter, filter_map, slice_get, option_copied, IfOk, OnOk, OnErr};
 ghost use Rattle.tcap_invocation.specs.declared.invocations.timers.Timer.{Timer};
 ghost use Rattle.tcap_invocation.specs.Order.{put_by, first_of};
-ghost use Rattle.tcap_invocation.specs.TimerList.{is_earlier, told_of_timer, is_later, is_kept, is_over, has_come};
+ghost use Rattle.tcap_invocation.specs.TimerList.{is_earlier, lapse_at_time, told_of_timer, timer_of, is_later, is_kept, is_over, has_come};
 
 mod due;
 mod sorted;
 mod telling;
 
+use super::Invocation;
 use super::lapse::Lapse;
+use crate::stage::Stage;
 use ber_core::OutOfMemory;
 use due::{is_due, take_due, take_over};
 use sorted::{put, take};
@@ -32,6 +34,17 @@ pub(super) struct Timer {
 }
 
 impl Timer {
+    /// What is told where it lapses.
+    pub(super) fn lapse(&self) -> Lapse
+        ensures { result ≡ lapse_at_time self.now }
+    {
+        Lapse {
+            deadline: self.time,
+            number: self.number,
+            id: self.id,
+        }
+    }
+
     /// Whether its time hasn't come at the clock.
     pub(super) fn is_later(&self, clock: u64) -> bool
         ensures { result ≡ is_later clock self.now }
@@ -52,6 +65,23 @@ impl Timer {
     {
         self.lapses || clock < self.time
     }
+}
+
+/// The timer of an invocation; there is none while it is Queued.
+pub(super) fn timer_of(id: &i8, entry: &Invocation) -> Option<Timer>
+    ensures { result ≡ timer_of (id.now, entry.now) }
+{
+    let (time, lapses) = match entry.stage {
+        Stage::Queued(_) => return None,
+        Stage::Sent(deadline) => (deadline, true),
+        Stage::Waiting(until) => (until, false),
+    };
+    Some(Timer {
+        time,
+        number: entry.number,
+        id: *id,
+        lapses,
+    })
 }
 
 /// Timers by time, then number. A contract sees the list, and for how many there is room.

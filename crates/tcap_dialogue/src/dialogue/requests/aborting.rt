@@ -26,7 +26,7 @@ use tcap_primitives::{
     AbortRequest, AbortWhy, Fault, MessageParts, Outgoing, Sending, Sink, SinkKind, abort_pdu,
     refusing_pdu,
 };
-use tcap_reception::Phase;
+use tcap_reception::{After, Phase};
 
 impl<A: Allocator + Copy> Dialogue<A> {
     /// TC-U-ABORT request: in Received and Active an Abort goes to the peer's address, and the dialogue is
@@ -159,14 +159,14 @@ impl<A: Allocator + Copy> Dialogue<A> {
         &mut self,
         request: &AbortRequest<'_>,
         sink: &mut Sink<'m, A, K>,
-    ) -> Result<bool, Fault>
+    ) -> Result<After, Fault>
         ensures step { StepsInto sink.old.outputs sink.new.outputs result
             (requested 0 0 self.old (Request.dialogue (abort_view request.now))) self.old self.new }
         ensures kept { self.new.standing.identifier ≡ self.old.standing.identifier }
     {
         self.write_abort(request, sink)?;
         tell_ended(self.identifier, &mut self.invocations, sink);
-        Ok(true)
+        Ok(self.phase.send_abort())
     }
 
     /// `send_abort`, into a vector.
@@ -176,8 +176,11 @@ impl<A: Allocator + Copy> Dialogue<A> {
         ensures kept { self.new.standing.identifier ≡ self.old.standing.identifier }
     {
         let mut sink = Sink::vector(*self.queue.octets.allocator());
-        let over = self.send_abort(request, &mut sink)?;
+        let after = self.send_abort(request, &mut sink)?;
         let outputs = sink.into_vector();
-        Ok(Step { outputs, over })
+        Ok(Step {
+            outputs,
+            over: after.is_over(),
+        })
     }
 }

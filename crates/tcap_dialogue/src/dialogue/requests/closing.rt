@@ -28,7 +28,7 @@ use crate::dialogue::{Dialogue, Step};
 use std::alloc::Allocator;
 use tcap_pdu::{Frame, TransId, is_user_information};
 use tcap_primitives::{EndRequest, Ending, Fault, MessageParts, Outgoing, Sending, Sink, SinkKind};
-use tcap_reception::Phase;
+use tcap_reception::{After, Phase};
 
 impl<A: Allocator + Copy> Dialogue<A> {
     /// TC-END request: a basic end sends the queue in an End to the peer's address, a prearranged one nothing;
@@ -217,14 +217,14 @@ impl<A: Allocator + Copy> Dialogue<A> {
         &mut self,
         request: &EndRequest<'_>,
         sink: &mut Sink<'m, A, K>,
-    ) -> Result<bool, Fault>
+    ) -> Result<After, Fault>
         ensures step { StepsInto sink.old.outputs sink.new.outputs result
             (requested 0 0 self.old (Request.dialogue (end_view request.now))) self.old self.new }
         ensures kept { self.new.standing.identifier ≡ self.old.standing.identifier }
     {
         self.write_end(request, sink)?;
         tell_ended(self.identifier, &mut self.invocations, sink);
-        Ok(true)
+        Ok(self.phase.send_end())
     }
 
     /// `send_end`, into a vector.
@@ -234,8 +234,11 @@ impl<A: Allocator + Copy> Dialogue<A> {
         ensures kept { self.new.standing.identifier ≡ self.old.standing.identifier }
     {
         let mut sink = Sink::vector(*self.queue.octets.allocator());
-        let over = self.send_end(request, &mut sink)?;
+        let after = self.send_end(request, &mut sink)?;
         let outputs = sink.into_vector();
-        Ok(Step { outputs, over })
+        Ok(Step {
+            outputs,
+            over: after.is_over(),
+        })
     }
 }

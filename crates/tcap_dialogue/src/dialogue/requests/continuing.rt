@@ -25,7 +25,7 @@ use crate::dialogue::{Dialogue, Step};
 use std::alloc::Allocator;
 use tcap_pdu::{Frame, TransId, is_user_information};
 use tcap_primitives::{ContinueRequest, Fault, MessageParts, Outgoing, Sending, Sink, SinkKind};
-use tcap_reception::Phase;
+use tcap_reception::{After, Phase};
 
 impl<A: Allocator + Copy> Dialogue<A> {
     /// TC-CONTINUE request: the queue goes out in a Continue to the peer's address, and the dialogue is
@@ -169,7 +169,7 @@ impl<A: Allocator + Copy> Dialogue<A> {
         request: &ContinueRequest<'_>,
         clock: u64,
         sink: &mut Sink<'m, A, K>,
-    ) -> Result<bool, Fault>
+    ) -> Result<After, Fault>
         requires { clock ≤ moment_limit }
         ensures step { StepsInto sink.old.outputs sink.new.outputs result
             (requested clock 0 self.old (Request.dialogue (continue_view request.now))) self.old self.new }
@@ -177,9 +177,8 @@ impl<A: Allocator + Copy> Dialogue<A> {
     {
         self.write_continue(request, sink)?;
         self.send_queue(clock);
-        self.phase = self.phase.activated();
         self.touched = clock;
-        Ok(false)
+        Ok(self.phase.send_continue())
     }
 
     /// `send_continue`, into a vector.
@@ -194,8 +193,11 @@ impl<A: Allocator + Copy> Dialogue<A> {
         ensures kept { self.new.standing.identifier ≡ self.old.standing.identifier }
     {
         let mut sink = Sink::vector(*self.queue.octets.allocator());
-        let over = self.send_continue(request, clock, &mut sink)?;
+        let after = self.send_continue(request, clock, &mut sink)?;
         let outputs = sink.into_vector();
-        Ok(Step { outputs, over })
+        Ok(Step {
+            outputs,
+            over: after.is_over(),
+        })
     }
 }

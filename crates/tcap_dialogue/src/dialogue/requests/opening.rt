@@ -2,7 +2,7 @@
 
 // Hints to inline have the reasons that requests.rt gives.
 
-ghost use Rattle.std.specs.Prelude.{◌≡◌, ◌≤◌, ◌++◌, None, Some, IfErr, IfOk, OnErr, OnOk, is_some, option_copied, true};
+ghost use Rattle.std.specs.Prelude.{◌≡◌, ◌≤◌, ◌++◌, None, Some, IfErr, IfOk, OnErr, OnOk, is_some, false, option_copied, true};
 ghost use Rattle.std.specs.Option.{option_map};
 ghost use Rattle.tcap_dialogue.specs.RequestForm.{Steps, StepsInto};
 ghost use Rattle.tcap_dialogue.specs.RequestMessages.{IsUnwritten, early_faults, outgoing_view};
@@ -11,6 +11,7 @@ ghost use Rattle.tcap_invocation.specs.Stage.{moment_limit};
 ghost use Rattle.tcap_model.specs.Procedures.AbortRules.{sent_if_any};
 ghost use Rattle.tcap_model.specs.Procedures.Refusals.{can_name, due_on, first_that, holds};
 ghost use Rattle.tcap_model.specs.Procedures.RequestMessage.{message_of};
+ghost use Rattle.tcap_model.specs.Table.Dialogue.{in_context, keeping};
 ghost use Rattle.tcap_model.specs.Table.TableMove.{situation};
 ghost use Rattle.tcap_model.specs.Words.Request.{DialogueRequest, Request};
 ghost use Rattle.tcap_primitives.specs.ContextViews.{context_view};
@@ -21,7 +22,8 @@ ghost use Rattle.tcap_primitives.specs.SendingViews.{CanSend, sending_view};
 use super::sending::{
     frame_length, is_name_good, lacks_context, send, send_frame, within_limit_if_any,
 };
-use crate::dialogue::beginning::Names;
+use crate::dialogue::beginning::{Names, keep_short};
+use crate::dialogue::kept_address::is_short;
 use crate::dialogue::{Dialogue, Step};
 use std::alloc::Allocator;
 use tcap_address::Address;
@@ -29,7 +31,7 @@ use tcap_pdu::{Frame, TransId, is_user_information};
 use tcap_primitives::{
     BeginRequest, Fault, MessageParts, Outgoing, Sending, Sink, SinkKind, begin_pdu,
 };
-use tcap_reception::Phase;
+use tcap_reception::After;
 
 impl<A: Allocator + Copy> Dialogue<A> {
     /// TC-BEGIN request: the queue goes out in a Begin to this address, which is kept, with an AARQ where
@@ -108,9 +110,40 @@ impl<A: Allocator + Copy> Dialogue<A> {
         within_limit_if_any(Some(self.begin_sending(request)))
     }
 
-    /// `write_begin`, with the AARQ of a context, if there is one.
+    /// Writes a Begin without an AARQ, which is judged here.
+    #[inline(always)]
+    fn write_plain_begin<'m, K: SinkKind>(
+        &self,
+        request: &BeginRequest<'_>,
+        sink: &mut Sink<'m, A, K>,
+    ) -> Result<(), Fault>
+        requires plain { is_some (option_copied request.now.context) ≡ false }
+        ensures ok { let r = Request.dialogue (begin_view request.now) in OnOk result
+            (sink.new.outputs ≡ sink.old.outputs
+            ++ sent_if_any request.now.to.now (message_of self.now.standing r)) }
+        ensures due { let r = Request.dialogue (begin_view request.now) in
+            OnOk result (due_on (situation (asked 0 0) self.now r) r ≡ None) }
+        ensures err { let r = Request.dialogue (begin_view request.now) in IfErr result (λ f. IsUnwritten f
+            (due_on (situation (asked 0 0) self.now r) r)
+            (is_some (message_of self.now.standing r))) }
+        ensures still { OnErr result (sink.new.outputs ≡ sink.old.outputs) }
+    {
+        if let Some(fault) = self.begin_fault(request) {
+            return Err(fault);
+        }
+        let frame = Frame::Begin {
+            otid: TransId::of(self.identifier),
+            dialogue: None,
+            components: self.queue.all_octets(),
+        };
+        let len = frame_length(&frame)?;
+        Ok(send_frame(request.to.octets(), &frame, len, 0, sink)?)
+    }
+
+    /// Judges a Begin and writes it: the names that the dialogue is to keep, for which memory is found first.
+    // It stands apart: it has all of a dialogue PDU in it.
     #[inline(never)]
-    fn write_any_begin<'m, K: SinkKind>(
+    fn write_named_begin<'m, K: SinkKind>(
         &self,
         request: &BeginRequest<'_>,
         sink: &mut Sink<'m, A, K>,
@@ -134,40 +167,36 @@ impl<A: Allocator + Copy> Dialogue<A> {
         Ok(names)
     }
 
-    /// Judges a Begin and writes it: the names that the dialogue is to keep.
+    /// Judges a Begin and writes it; the dialogue keeps its destination and its context.
+    // By the shorter way where nothing but the message takes memory.
     #[inline(always)]
     fn write_begin<'m, K: SinkKind>(
-        &self,
+        &mut self,
         request: &BeginRequest<'_>,
         sink: &mut Sink<'m, A, K>,
-    ) -> Result<Names<A>, Fault>
+    ) -> Result<(), Fault>
         ensures ok { let r = Request.dialogue (begin_view request.now) in OnOk result
             (sink.new.outputs ≡ sink.old.outputs
-            ++ sent_if_any request.now.to.now (message_of self.now.standing r)) }
+            ++ sent_if_any request.now.to.now (message_of self.old.standing r)) }
         ensures due { let r = Request.dialogue (begin_view request.now) in
-            OnOk result (due_on (situation (asked 0 0) self.now r) r ≡ None) }
-        ensures names { IfOk result (λ names. (names.kept ≡ request.now.to.now)
-            × (context_view names.context ≡ option_copied request.now.context)) }
+            OnOk result (due_on (situation (asked 0 0) self.old r) r ≡ None) }
+        ensures names { OnOk result (self.new
+            ≡ keeping (in_context self.old (option_copied request.now.context)) request.now.to.now) }
         ensures err { let r = Request.dialogue (begin_view request.now) in IfErr result (λ f. IsUnwritten f
-            (due_on (situation (asked 0 0) self.now r) r)
-            (is_some (message_of self.now.standing r))) }
+            (due_on (situation (asked 0 0) self.old r) r)
+            (is_some (message_of self.old.standing r))) }
         ensures still { OnErr result (sink.new.outputs ≡ sink.old.outputs) }
+        ensures unchanged { OnErr result (self.new ≡ self.old) }
     {
-        if request.context.is_some() {
-            return self.write_any_begin(request, sink);
+        if request.context.is_some() || !is_short(request.to) {
+            let names = self.write_named_begin(request, sink)?;
+            self.kept = names.kept;
+            self.context = names.context;
+        } else {
+            self.write_plain_begin(request, sink)?;
+            keep_short(request.to, &mut self.kept, &mut self.context);
         }
-        if let Some(fault) = self.begin_fault(request) {
-            return Err(fault);
-        }
-        let frame = Frame::Begin {
-            otid: TransId::of(self.identifier),
-            dialogue: None,
-            components: self.queue.all_octets(),
-        };
-        let len = frame_length(&frame)?;
-        let names = Names::of(*self.queue.octets.allocator(), request.to, None)?;
-        send_frame(request.to.octets(), &frame, len, 0, sink)?;
-        Ok(names)
+        Ok(())
     }
 
     /// Judges a Begin, and writes it at this moment; the dialogue keeps its destination and its context, and is Sent,
@@ -178,19 +207,16 @@ impl<A: Allocator + Copy> Dialogue<A> {
         request: &BeginRequest<'_>,
         clock: u64,
         sink: &mut Sink<'m, A, K>,
-    ) -> Result<bool, Fault>
+    ) -> Result<After, Fault>
         requires { clock ≤ moment_limit }
         ensures step { StepsInto sink.old.outputs sink.new.outputs result
             (requested clock 0 self.old (Request.dialogue (begin_view request.now))) self.old self.new }
         ensures kept { self.new.standing.identifier ≡ self.old.standing.identifier }
     {
-        let names = self.write_begin(request, sink)?;
-        self.kept = names.kept;
-        self.context = names.context;
+        self.write_begin(request, sink)?;
         self.send_queue(clock);
-        self.phase = Phase::Sent;
         self.touched = clock;
-        Ok(false)
+        Ok(self.phase.send_begin())
     }
 
     /// `send_begin`, into a vector.
@@ -205,8 +231,11 @@ impl<A: Allocator + Copy> Dialogue<A> {
         ensures kept { self.new.standing.identifier ≡ self.old.standing.identifier }
     {
         let mut sink = Sink::vector(*self.queue.octets.allocator());
-        let over = self.send_begin(request, clock, &mut sink)?;
+        let after = self.send_begin(request, clock, &mut sink)?;
         let outputs = sink.into_vector();
-        Ok(Step { outputs, over })
+        Ok(Step {
+            outputs,
+            over: after.is_over(),
+        })
     }
 }

@@ -26,6 +26,7 @@ use tcap_pdu::is_user_information;
 use tcap_primitives::{
     Fault, MessageParts, Outgoing, Sending, Sink, SinkKind, UniRequest, uni_pdu,
 };
+use tcap_reception::After;
 
 impl<A: Allocator + Copy> Dialogue<A> {
     /// TC-UNI request: the queue goes out in a Unidirectional to this address, and the dialogue is over. `context`
@@ -137,14 +138,14 @@ impl<A: Allocator + Copy> Dialogue<A> {
         &mut self,
         request: &UniRequest<'_>,
         sink: &mut Sink<'m, A, K>,
-    ) -> Result<bool, Fault>
+    ) -> Result<After, Fault>
         ensures step { StepsInto sink.old.outputs sink.new.outputs result
             (requested 0 0 self.old (Request.dialogue (uni_view request.now))) self.old self.new }
         ensures kept { self.new.standing.identifier ≡ self.old.standing.identifier }
     {
         self.write_uni(request, sink)?;
         tell_ended(self.identifier, &mut self.invocations, sink);
-        Ok(true)
+        Ok(self.phase.send_uni())
     }
 
     /// `send_uni`, into a vector.
@@ -154,8 +155,11 @@ impl<A: Allocator + Copy> Dialogue<A> {
         ensures kept { self.new.standing.identifier ≡ self.old.standing.identifier }
     {
         let mut sink = Sink::vector(*self.queue.octets.allocator());
-        let over = self.send_uni(request, &mut sink)?;
+        let after = self.send_uni(request, &mut sink)?;
         let outputs = sink.into_vector();
-        Ok(Step { outputs, over })
+        Ok(Step {
+            outputs,
+            over: after.is_over(),
+        })
     }
 }

@@ -8,30 +8,13 @@ ghost use Rattle.tcap_invocation.specs.declared.invocations.timers.Timer.{Timer}
 ghost use Rattle.tcap_invocation.specs.declared.stage.Stage.TheVariants.{Waiting};
 ghost use Rattle.tcap_invocation.specs.Invocations.{Row, AreInOrder, entry_at, sent_at, without, at_stage, sent_rows};
 ghost use Rattle.tcap_invocation.specs.Stage.{is_queued, moment_limit};
-ghost use Rattle.tcap_invocation.specs.TimerList.{IsTimed, AreQueuedLast, timer_of, put_timer, sent_place, sent_below};
+ghost use Rattle.tcap_invocation.specs.TimerList.{HasTimer, IsTimed, AreQueuedLast, timer_of, put_timer, sent_place, sent_below};
 
 use super::Entries;
 use crate::invocations::Invocation;
-use crate::invocations::timers::{Timer, Timers};
+use crate::invocations::timers::{Timer, Timers, timer_of};
 use crate::stage::Stage;
 use std::alloc::{AllocError, Allocator};
-
-/// The timer of an invocation; there is none while it is Queued.
-fn timer_of(id: &i8, entry: &Invocation) -> Option<Timer>
-    ensures { result ≡ timer_of (id.now, entry.now) }
-{
-    let (time, lapses) = match entry.stage {
-        Stage::Queued(_) => return None,
-        Stage::Sent(deadline) => (deadline, true),
-        Stage::Waiting(until) => (until, false),
-    };
-    Some(Timer {
-        time,
-        number: entry.number,
-        id: *id,
-        lapses,
-    })
-}
 
 /// Takes the timer of an invocation out of the list, if it has one.
 fn drop_timer<A: Allocator + Copy>(timers: &mut Timers<A>, id: &i8, entry: &Invocation)
@@ -92,6 +75,24 @@ pub(super) fn take_out<A: Allocator + Copy>(
 {
     drop_timer(timers, id, entry);
     entries.shift_remove(id);
+}
+
+/// Takes the invocation of a timer out, with the timer.
+pub(super) fn take_timed<A: Allocator + Copy>(
+    entries: &mut Entries<A>,
+    timers: &mut Timers<A>,
+    timer: Timer,
+)
+    requires found { HasTimer entries.old.entries timer }
+    requires order { AreInOrder entries.old.entries }
+    requires distinct { IsDistinct int_eq (keys_of entries.old.entries) }
+    requires timed { IsTimed entries.old.entries timers.old }
+    requires last { AreQueuedLast entries.old.entries }
+    ensures rows { entries.new.entries ≡ without entries.old.entries timer.id }
+    ensures timed { IsTimed entries.new.entries timers.new }
+{
+    timers.remove(timer);
+    entries.shift_remove(&timer.id);
 }
 
 /// The identifier of an invocation that a result or an error closed waits for a Reject.

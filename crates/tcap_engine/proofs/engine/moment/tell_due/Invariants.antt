@@ -5,8 +5,8 @@ use Rattle.tcap_engine.specs.Lapsing.{step_count}
 use Rattle.tcap_engine.specs.DialogueEntries.{AreFrom, dialogues_of}
 use Rattle.tcap_engine.proofs.engine.moment.tell_due.Given as goal
 
-abbrev pub invariant-loop-time : goal.invariant-loop-time
-invariant-loop-time g l = record {
+abbrev pub invariant-loop-identifier : goal.invariant-loop-identifier
+invariant-loop-identifier g l = record {
   from : AreFrom 0 l.table;
   room : length (all_told l.now (dialogues_of l.table)) ≤ l.sink.places;
   whole : l.initial.sink.places + length (all_told l.now (dialogues_of l.table)) ≤ l.sink.places + length (all_told l.now (dialogues_of l.initial.table));
@@ -17,5 +17,5 @@ invariant-loop-time g l = record {
   left : left_by l.now (idle_ids l.now l.initial.table) l.table ≡ left_by l.now (idle_ids l.now l.initial.table) l.initial.table;
 }
 
-abbrev pub decreases-loop-time : goal.decreases-loop-time
-decreases-loop-time g l = step_count l.now l.table
+abbrev pub decreases-loop-identifier : goal.decreases-loop-identifier
+decreases-loop-identifier g l = step_count l.now l.table
