@@ -106,7 +106,7 @@ impl Address {
 
     /// Becomes the address of these octets, at most 255, in place.
     #[inline]
-    fn hold(&mut self, octets: &[u8])
+    pub fn hold(&mut self, octets: &[u8])
         requires { length octets.now ≤ 255 }
         ensures { self.new ≡ octets.now }
     {

@@ -3,6 +3,7 @@ pub mod ContextViews
 pub mod FaultText
 pub mod FaultViews
 pub mod IndicationViews
+pub mod KeptViews
 pub mod OutboxOctets
 pub mod OutboxReading
 pub mod OutboxSpans

@@ -8,6 +8,7 @@
 mod context;
 mod fault;
 mod indication;
+pub mod kept;
 mod outbox;
 mod output;
 mod provider_abort;

@@ -6,8 +6,9 @@ ghost use Rattle.tcap_primitives.specs.OutboxViews.{output_ref_view, outputs_lef
 mod indications;
 mod iter;
 mod keeping;
-mod output_ref;
-mod records;
+pub(crate) mod kept;
+pub(crate) mod output_ref;
+pub(crate) mod records;
 mod room;
 mod tell;
 

@@ -1,10 +1,12 @@
 -- The outputs that wait, where an event comes or an output goes.
-use Rattle.std.proofs.Common.{◌≡◌, ℕ, zero, suc, ◌<◌, ◌≤◌, true, false, nat_eq, List, [], ◌∷◌, ◌++◌, length, take, drop, Option, Some, None, refl, sym, ap, ◌∙◌, subst, arith, tests}
+use Rattle.std.proofs.Common.{◌≡◌, ℕ, zero, suc, ◌<◌, ◌≤◌, true, false, is_some, nat_eq, List, [], ◌∷◌, ◌++◌, length, take, drop, Option, Some, None, refl, sym, ap, ◌∙◌, subst, arith, tests}
 use Rattle.std.proofs.lemmas.List.{append-nil, length-append, append_assoc, drop-append-le, take-append-le, take_all, drop_all}
 use Rattle.std.specs.List.{slice_get}
+use Rattle.std.specs.Option.{option_map}
 use Rattle.tcap_model.specs.Words.Output.{Output}
 use Rattle.tcap_station.specs.Marks.{AreMarked, less_one, marked, one_less, with_first, with_mark}
-use Rattle.tcap_station.specs.WaitingOutput.{WaitingOutput, numbered_outputs}
+use Rattle.tcap_station.specs.WaitingOutput.{WaitingOutput, is_any, numbered_outputs}
+use Rattle.tcap_station.specs.WaitingViews.{output_of}
 use Rattle.tcap_station.specs.declared.line.marks.Mark.{Mark}
 
 -- An output is taken: the events have the others.
@@ -87,3 +89,25 @@ first-waits None others os m o h is next = absurd cc
 first-waits (Some k) others os m o h is next =
     let same : m ≡ k = cc in
     ap (λ (x : Mark). Some (record { output = o; event = x.event; is_last = nat_eq x.left 1 })) same ∙ sym (first-marked k others os o h (sym next))
+
+-- Whatever waits first is the first output.
+pub first-output : (ms : List Mark) (os : List Output) → AreMarked ms os → option_map output_of (slice_get (marked ms os) 0) ≡ slice_get os 0
+first-output [] os h = rw h refl
+first-output (m ∷ ms) os h = go m.left os h.0.some h.0.within
+  where
+    go : (n : ℕ) (os : List Output) → 0 < n → n ≤ length os
+        → option_map output_of (slice_get (numbered_outputs m.event (take n os) ++ marked ms (drop n os)) 0) ≡ slice_get os 0
+    go zero os some within = absurd (omega (arith, some))
+    go (suc n) [] some within = absurd (omega (arith, within))
+    go (suc n) (o ∷ os) some within = refl
+
+-- Something waits where there is an event of which outputs wait.
+pub any-waits : (first : Option Mark) (others : List Mark) (os : List Output) → AreMarked (with_first first others) os
+    → is_some first ≡ is_any (marked (with_first first others) os)
+any-waits None others os h = refl
+any-waits (Some k) others [] h = absurd (omega (arith, h.0.some, h.0.within))
+any-waits (Some k) others (o ∷ os) h = go k.left h.0.some
+  where
+    go : (n : ℕ) → 0 < n → true ≡ is_any (numbered_outputs k.event (take n (o ∷ os)) ++ marked others (drop n (o ∷ os)))
+    go zero some = absurd (omega (arith, some))
+    go (suc n) some = refl

@@ -10,4 +10,4 @@ mod station;
 mod waiting;
 
 pub use station::Station;
-pub use waiting::Waiting;
+pub use waiting::{Answering, Waiting};

@@ -4,17 +4,19 @@ pub(crate) mod accepting;
 pub(crate) mod marks;
 pub(crate) mod outboxes;
 
-ghost use Rattle.std.specs.Prelude.{◌≡◌, [], drop, slice_get};
+ghost use Rattle.std.specs.Prelude.{◌≡◌, [], IfSome, drop, slice_get};
 ghost use Rattle.std.specs.Option.{option_map};
+ghost use Rattle.tcap_primitives.specs.KeptViews.{FitsKept, kept_view};
 ghost use Rattle.tcap_station.specs.Line.{IsInLine, waiting_in};
 ghost use Rattle.tcap_station.specs.WaitingOutput.{is_any};
-ghost use Rattle.tcap_station.specs.WaitingViews.{waiting_view};
+ghost use Rattle.tcap_station.specs.WaitingViews.{answering, output_of, waiting_view};
 
-use crate::waiting::Waiting;
-use marks::{Marks, count_down};
-use outboxes::{pass_first, read_first};
+use crate::waiting::{Answering, Waiting};
+use marks::{Mark, Marks, count_down};
+use outboxes::{kept_first, pass_first, read_first};
 use std::alloc::{Allocator, Global};
 use tcap_engine::Outbox;
+use tcap_primitives::kept::KeptOutput;
 
 /// What waits. Of the outputs in front so many have been taken; those behind come after them.
 #[derive(Debug, Drop)]
@@ -40,6 +42,15 @@ impl<A: Allocator + Copy> Line<A> {
         }
     }
 
+    /// Whether an output waits.
+    #[inline(always)]
+    pub(crate) fn is_any(&self) -> bool
+        requires { IsInLine self.now }
+        ensures { result ≡ is_any (waiting_in self.now) }
+    {
+        self.marks.first.is_some()
+    }
+
     /// The output that comes next, if one waits. It copies no octets.
     #[inline]
     pub(crate) fn first(&self) -> Option<Waiting<'_>>
@@ -55,19 +66,30 @@ impl<A: Allocator + Copy> Line<A> {
         })
     }
 
-    /// Takes away the output that comes next: whether one waited.
-    #[inline]
-    pub(crate) fn remove_first(&mut self) -> bool
+    /// The output that comes next, as it is kept, if one waits.
+    #[inline(always)]
+    pub(crate) fn kept_first(&self) -> Option<KeptOutput<'_>>
+        requires { IsInLine self.now }
+        ensures output { option_map kept_view result ≡ option_map output_of (slice_get (waiting_in self.now) 0) }
+        ensures fits { IfSome result FitsKept }
+    {
+        kept_first(&self.front, self.taken, &self.back)
+    }
+
+    /// Takes away the output that comes next, if one waits: which event it answers.
+    #[inline(always)]
+    pub(crate) fn remove_first(&mut self) -> Option<Answering>
         requires { IsInLine self.old }
-        ensures found { result ≡ is_any (waiting_in self.old) }
+        ensures found { result ≡ option_map answering (slice_get (waiting_in self.old) 0) }
         ensures rest { waiting_in self.new ≡ drop 1 (waiting_in self.old) }
         ensures in_line { IsInLine self.new }
     {
-        if self.marks.first.is_none() {
-            return false;
-        }
+        let Mark { event, left } = self.marks.first?;
         count_down(&mut self.marks);
         pass_first(&mut self.front, &mut self.taken, &mut self.back);
-        true
+        Some(Answering {
+            event,
+            is_last: left == 1,
+        })
     }
 }

@@ -12,7 +12,9 @@ ghost use Rattle.tcap_model.specs.Table.World.{StandsAt, first_world};
 
 use crate::line::Line;
 use std::alloc::{Allocator, Global};
+use std::fmt;
 use std::marker::Model;
+use tcap_address::Address;
 use tcap_engine::{Engine, Limits};
 
 /// An engine, and what it sends and tells, which waits until it is taken (our own).
@@ -24,7 +26,7 @@ use tcap_engine::{Engine, Limits};
 ///
 /// Events that are accepted are counted from 1 on, up to 2^64 - 1, and each output that waits has the number of its
 /// event. A refused event isn't counted, and changes nothing.
-#[derive(Debug, Drop)]
+#[derive(Drop)]
 pub struct Station<A: Allocator + Copy = Global> {
     engine: Engine<A>,
     line: Line<A>,
@@ -32,6 +34,8 @@ pub struct Station<A: Allocator + Copy = Global> {
     events: u64,
     /// How many octets a message of the user may have, 1 to 65,535.
     max_message: usize,
+    /// The address from which octets came last, in a place of its own: they are copied there, and not into a new one.
+    sender: Address,
 }
 
 impl<A: Allocator + Copy> Model for Station<A> {
@@ -79,6 +83,19 @@ impl<A: Allocator + Copy> Station<A> {
             line: Line::new(alloc),
             events: 0,
             max_message,
+            sender: Address::empty(),
         }
+    }
+}
+
+// By hand, since the address from which octets came last says nothing of what the station is.
+impl<A: Allocator + Copy + fmt::Debug> fmt::Debug for Station<A> {
+    fn fmt<W: fmt::Write>(&self, f: &mut fmt::Formatter<W>) -> fmt::Result {
+        f.debug_struct("Station")
+            .field("engine", &self.engine)
+            .field("line", &self.line)
+            .field("events", &self.events)
+            .field("max_message", &self.max_message)
+            .finish()
     }
 }

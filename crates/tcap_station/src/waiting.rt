@@ -12,3 +12,12 @@ pub struct Waiting<'s> {
     /// Whether it is the last output of that event.
     pub is_last: bool,
 }
+
+/// Which event an output that was taken answers (our own).
+#[derive(Clone, Copy, Debug, PartialEq, Eq)]
+pub struct Answering {
+    /// The number of the event: events that were accepted are counted, from 1 on.
+    pub event: u64,
+    /// Whether the output is the last of that event.
+    pub is_last: bool,
+}

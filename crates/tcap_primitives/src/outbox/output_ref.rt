@@ -23,7 +23,7 @@ pub enum OutputRef<'o> {
 
 /// A part of the octets.
 #[inline(always)]
-fn part(octets: &[u8], span: Span) -> &[u8]
+pub fn part(octets: &[u8], span: Span) -> &[u8]
     requires { Fits octets.now span }
     ensures { result.now ≡ part octets.now span }
 {
@@ -33,7 +33,7 @@ fn part(octets: &[u8], span: Span) -> &[u8]
 
 /// A part of the octets, if there is one.
 #[inline(always)]
-fn optional_part(octets: &[u8], span: Option<Span>) -> Option<&[u8]>
+pub fn optional_part(octets: &[u8], span: Option<Span>) -> Option<&[u8]>
     requires { OptionFits octets.now span }
     ensures { option_copied result ≡ option_map (part octets.now) span }
 {
@@ -45,7 +45,7 @@ fn optional_part(octets: &[u8], span: Option<Span>) -> Option<&[u8]>
 
 /// A code.
 #[inline(always)]
-fn code_of(octets: &[u8], code: CodeRecord) -> Code<'_>
+pub fn code_of(octets: &[u8], code: CodeRecord) -> Code<'_>
     requires { CodeFits octets.now code }
     ensures { code_parts result ≡ code_read octets.now code }
 {
@@ -57,7 +57,7 @@ fn code_of(octets: &[u8], code: CodeRecord) -> Code<'_>
 
 /// The body of a result, if it has one.
 #[inline(always)]
-fn body_of(octets: &[u8], body: Option<BodyRecord>) -> Option<Body<'_>>
+pub fn body_of(octets: &[u8], body: Option<BodyRecord>) -> Option<Body<'_>>
     requires { ResultFits octets.now body }
     ensures { option_map body_parts result ≡ option_map (body_read octets.now) body }
 {
@@ -120,7 +120,7 @@ fn pdu_of(octets: &[u8], pdu: PduRecord) -> DialoguePdu<'_>
 
 /// The dialogue PDU of an Abort, if there is one.
 #[inline(always)]
-fn abort_of(octets: &[u8], pdu: Option<PduRecord>) -> Option<DialoguePdu<'_>>
+pub fn abort_of(octets: &[u8], pdu: Option<PduRecord>) -> Option<DialoguePdu<'_>>
     requires { AbortFits octets.now pdu }
     ensures { option_map pdu_value result ≡ option_map (pdu_read octets.now) pdu }
 {

@@ -5,7 +5,6 @@ ghost use Rattle.tcap_station.specs.Marks.{HasPlace, IsOrdered, marks_in, with_m
 ghost use Rattle.tcap_station.specs.Station.{following};
 
 use super::marks::{Marks, add_mark};
-use super::outboxes::count_since;
 use std::alloc::Allocator;
 use tcap_engine::Outbox;
 
@@ -16,7 +15,9 @@ pub(crate) fn count_event<T, E>(events: &mut u64, answer: Result<T, E>) -> Resul
     ensures ok { OnOk answer (events.new ≡ following events.old) }
     ensures err { OnErr answer (events.new ≡ events.old) }
 {
-    *events = events.saturating_add(u64::from(answer.is_ok()));
+    if answer.is_ok() {
+        *events = events.saturating_add(1);
+    }
     answer
 }
 
@@ -40,8 +41,9 @@ pub(crate) fn mark_event<A: Allocator + Copy, E>(
     ensures ordered { IsOrdered marks.new }
 {
     let answer = count_event(events, answer);
-    if answer.is_ok() {
-        add_mark(marks, *events, count_since(outbox, before));
+    let count = outbox.len();
+    if answer.is_ok() && count > before {
+        add_mark(marks, *events, count - before);
     }
     answer
 }

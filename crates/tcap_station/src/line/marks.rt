@@ -108,6 +108,20 @@ pub(crate) fn count_down<A: Allocator + Copy>(marks: &mut Marks<A>)
         });
         return;
     }
+    if marks.others.is_empty() {
+        marks.first = None;
+    } else {
+        next_mark(marks);
+    }
+}
+
+/// The event behind the first comes to the front, if there is one.
+// Out of line: behind most calls one event waits.
+#[inline(never)]
+fn next_mark<A: Allocator + Copy>(marks: &mut Marks<A>)
+    ensures marks { marks_in marks.new ≡ marks.old.others.items }
+    ensures ordered { IsOrdered marks.new }
+{
     marks.first = marks.others.pop_front();
     if marks.others.capacity() > KEPT_MARKS {
         give_back(&mut marks.others);

@@ -1,13 +1,15 @@
 //! The two outboxes: of the one in front the outputs are taken, while the one behind is filled.
 
-ghost use Rattle.std.specs.Prelude.{[], ◌≡◌, ◌<◌, ◌+◌, ◌-◌, ◌++◌, drop, length, slice_get};
+ghost use Rattle.std.specs.Prelude.{[], IfSome, ◌≡◌, ◌<◌, ◌+◌, ◌-◌, ◌++◌, drop, length, slice_get};
 ghost use Rattle.std.specs.Option.{option_map};
+ghost use Rattle.tcap_primitives.specs.KeptViews.{FitsKept, kept_view};
 ghost use Rattle.tcap_primitives.specs.OutboxViews.{output_ref_view};
 ghost use Rattle.tcap_station.specs.Line.{IsLeft};
 
 use std::alloc::Allocator;
 use std::mem;
 use tcap_engine::{Outbox, OutputRef};
+use tcap_primitives::kept::KeptOutput;
 
 /// For how many outputs an outbox keeps its room at most once they are taken (our own).
 const KEPT_OUTPUTS: usize = 64;
@@ -45,12 +47,23 @@ pub(crate) fn read_first<'o, A: Allocator + Copy>(
     outbox.get(index)
 }
 
-/// How many outputs there are behind the first so many.
+/// The output that comes next, as it is kept.
 #[inline(always)]
-pub(crate) fn count_since<A: Allocator + Copy>(outbox: &Outbox<A>, before: usize) -> usize
-    ensures { result ≡ length outbox.now.outputs - before }
+pub(crate) fn kept_first<'o, A: Allocator + Copy>(
+    front: &'o Outbox<A>,
+    taken: usize,
+    back: &'o Outbox<A>,
+) -> Option<KeptOutput<'o>>
+    requires { IsLeft taken front.now.outputs }
+    ensures output { option_map kept_view result
+        ≡ slice_get (drop taken front.now.outputs ++ back.now.outputs) 0 }
+    ensures fits { IfSome result FitsKept }
 {
-    outbox.len().saturating_sub(before)
+    if taken < front.len() {
+        front.kept(taken)
+    } else {
+        back.kept(0)
+    }
 }
 
 /// Takes the output that comes next.

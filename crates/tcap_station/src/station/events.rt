@@ -1,11 +1,13 @@
 //! Events that are no request on a dialogue: bytes, moments, and dialogues that are created.
 
-ghost use Rattle.std.specs.Prelude.{◌≡◌, ◌≢◌, ◌<◌, [], IfErr, OnErr, OnOk};
+ghost use Rattle.std.specs.Prelude.{◌≡◌, ◌≢◌, ◌<◌, ◌≤◌, [], IfErr, OnErr, OnOk, length};
+ghost use Rattle.tcap_engine.specs.HistoryForm.{StandsReceived};
 ghost use Rattle.tcap_engine.specs.Running.{outputs_in};
-ghost use Rattle.tcap_engine.specs.StepForm.{birth_answer};
+ghost use Rattle.tcap_engine.specs.StepForm.{EngineReceives, birth_answer, since_answer};
 ghost use Rattle.tcap_model.specs.Table.EngineMove.{engine_move};
 ghost use Rattle.tcap_model.specs.Words.Event.{Event};
 ghost use Rattle.tcap_primitives.specs.FaultViews.{fault_view};
+ghost use Rattle.tcap_primitives.specs.SinkViews.{KeepsOutputs};
 ghost use Rattle.tcap_station.specs.Marks.{HasPlace, IsOrdered, marks_in};
 ghost use Rattle.tcap_station.specs.HistoryForm.{StandsTaken, StandsTold};
 ghost use Rattle.tcap_station.specs.StepForm.{IsRefusal, Takes, TakesReceived, outputs_of};
@@ -15,7 +17,7 @@ use crate::line::accepting::{count_event, mark_event};
 use crate::line::marks::{Marks, find_place, has_place, make_place};
 use ber_core::OutOfMemory;
 use std::alloc::Allocator;
-use tcap_engine::{Address, Engine, Fault};
+use tcap_engine::{Address, Engine, Fault, Outbox};
 
 impl<A: Allocator + Copy> Station<A> {
     /// Bytes were received from an address (Q.774, Transaction sublayer procedures). They are never refused, and
@@ -27,10 +29,28 @@ impl<A: Allocator + Copy> Station<A> {
         // Whatever legal history the engine stood at: the reply, and the history that it stands at then.
         ensures stands { StandsTold result (Event.received from.now message.now) self.old self.new }
     {
+        self.receive_from(from.octets(), message)
+    }
+
+    /// `receive`, from the address of these octets, at most 255: for who has no `Address`.
+    #[inline(always)]
+    pub fn receive_from(&mut self, from: &[u8], message: &[u8]) -> Result<(), OutOfMemory>
+        requires { length from.now ≤ 255 }
+        ensures moves { TakesReceived result
+            (engine_move self.old.engine (Event.received from.now message.now)) self.old self.new }
+        ensures err { OnErr result (self.new ≡ self.old) }
+        ensures stands { StandsTold result (Event.received from.now message.now) self.old self.new }
+    {
         // Something is always told.
         find_place(&mut self.line.marks)?;
         let before = self.line.back.len();
-        let received = self.engine.receive_into(from, message, &mut self.line.back);
+        let received = receive_held(
+            &mut self.engine,
+            &mut self.sender,
+            from,
+            message,
+            &mut self.line.back,
+        );
         mark_event(
             &mut self.events,
             &mut self.line.marks,
@@ -42,6 +62,7 @@ impl<A: Allocator + Copy> Station<A> {
 
     /// The clock is at this moment, in milliseconds, at most 2^62: what is due lapses or ends (Q.774, Invocation
     /// timer; Q.774, Reject timer). A moment below the clock does nothing. Faults: `MomentTooLate`, `OutOfMemory`.
+    #[inline(always)]
     pub fn advance(&mut self, now: u64) -> Result<(), Fault>
         ensures moves { let m = engine_move self.old.engine (Event.moment now) in
             Takes (outputs_of m) result m self.old self.new }
@@ -70,6 +91,28 @@ impl<A: Allocator + Copy> Station<A> {
         let created = self.engine.new_dialogue();
         count_event(&mut self.events, created)
     }
+}
+
+/// The engine receives bytes from the address of these octets, which is held in this place.
+// An address made for the call would be filled with 255 octets first.
+#[inline(always)]
+fn receive_held<A: Allocator + Copy>(
+    engine: &mut Engine<A>,
+    sender: &mut Address,
+    from: &[u8],
+    message: &[u8],
+    outbox: &mut Outbox<A>,
+) -> Result<(), OutOfMemory>
+    requires { length from.now ≤ 255 }
+    ensures moves { EngineReceives (since_answer outbox.old.outputs outbox.new.outputs) result
+        (engine_move engine.old (Event.received from.now message.now)) engine.old engine.new }
+    ensures kept { KeepsOutputs outbox.old.outputs outbox.new.outputs }
+    ensures still { OnErr result (outbox.new.outputs ≡ outbox.old.outputs) }
+    ensures stands { StandsReceived (since_answer outbox.old.outputs outbox.new.outputs) result
+        (Event.received from.now message.now) engine.old engine.new }
+{
+    sender.hold(from);
+    engine.receive_into(sender, message, outbox)
 }
 
 /// Makes a place for a moment at which anything is told.
