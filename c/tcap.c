@@ -6,10 +6,17 @@
 #include <stdlib.h>
 #include <string.h>
 
+/* an output, as the proved calls write it and as a program reads it */
+union told { tcap_c_out numbers; tcap_output output; };
+#define SAME(field) _Static_assert(offsetof(tcap_c_out, field) == offsetof(tcap_output, field), #field)
+SAME(event); SAME(number); SAME(address); SAME(message); SAME(portion.context); SAME(portion.info); SAME(code.kind);
+SAME(code.local); SAME(code.global); SAME(parameter); SAME(dialogue); SAME(invoke_id); SAME(linked_id); SAME(problem);
+SAME(cause); SAME(diagnostic); SAME(kind); SAME(pdu); SAME(closes); SAME(is_last); SAME(has_context);
+SAME(has_parameter); SAME(is_version1); SAME(is_accepted); SAME(is_by_provider);
+_Static_assert(sizeof(tcap_c_out) == sizeof(tcap_output) && sizeof(tcap_code_kind) == 4, "the structs of an output");
 struct tcap {
   tcap_c_handle handle;
-  tcap_c_out numbers;        /* of the output that tcap_next answered last */
-  tcap_output output;        /* that output */
+  union told told;           /* the output that tcap_next answered last */
   uint8_t room[65535 + 255]; /* its octets: a message and an address are the most */
 };
 
@@ -70,7 +77,7 @@ const char *tcap_status_text(tcap_status status) {
   uint8_t late = (there) ? tcap_c_advance(&t->handle, now) : TCAP_C_BAD_ARGUMENT; IF(true, late ? late : (call))
 static bool all_there(const tcap *t, tcap_octets a, tcap_octets b) { return t && (a.at || !a.len) && (b.at || !b.len); }
 tcap_status tcap_receive(tcap *t, uint64_t now, tcap_octets from, tcap_octets message) {
-  AT(all_there(t, from, message), now, tcap_c_receive(&t->handle, O(from), O(message)));
+  IF(all_there(t, from, message), tcap_c_receive(&t->handle, now, O(from), O(message)));
 }
 tcap_status tcap_advance(tcap *t, uint64_t now) { IF(t, tcap_c_advance(&t->handle, now)); }
 
@@ -115,22 +122,15 @@ tcap_status tcap_u_abort(tcap *t, uint64_t now, uint32_t d, tcap_abort_reason re
   AT(all_there(t, info, info), now, tcap_c_u_abort(&t->handle, d, (int32_t)reason, O(info)));
 }
 
-/* ---- what waits */
-static tcap_octets part(const uint8_t **at, size_t len) { return *at += len, (tcap_octets){*at - len, len}; }
+/* ---- what waits: where each part stands in the room becomes a pointer */
+#define PLACE(part) (t->told.output.part.at = t->room + t->told.numbers.part.at)
+__attribute__((noinline)) /* so that tcap_next saves fewer registers, also where nothing waits */
+static const tcap_output *with_pointers(tcap *t) {
+  PLACE(address), PLACE(message), PLACE(portion.context), PLACE(portion.info), PLACE(code.global), PLACE(parameter);
+  return &t->told.output;
+}
 const tcap_output *tcap_next(tcap *t) {
-  if (!t || tcap_c_next(&t->handle, &t->numbers, t->room, sizeof t->room)) return NULL;
-  const tcap_c_out *c = &t->numbers;
-  tcap_output *o = &t->output;
-  const uint8_t *at = t->room;
-  o->event = c->event, o->number = c->number, o->dialogue = c->dialogue, o->invoke_id = c->invoke_id;
-  o->linked_id = c->linked_id, o->problem = c->problem, o->cause = c->cause, o->diagnostic = c->diagnostic, o->kind = c->kind;
-  o->pdu = c->pdu, o->is_last = c->is_last, o->has_context = c->has_context, o->has_parameter = c->has_parameter;
-  o->is_version1 = c->is_version1, o->is_accepted = c->is_accepted, o->is_by_provider = c->is_by_provider;
-  o->code.kind = (tcap_code_kind)c->code_kind, o->code.local = c->local, o->closes = c->closes;
-  o->address = part(&at, c->address_len), o->message = part(&at, c->message_len);
-  o->portion.context = part(&at, c->context_len), o->portion.info = part(&at, c->info_len);
-  o->code.global = part(&at, c->global_len), o->parameter = part(&at, c->parameter_len);
-  return o;
+  return !t || tcap_c_next(&t->handle, &t->told.numbers, t->room, sizeof t->room) ? NULL : with_pointers(t);
 }
 
 /* ---- getters: the proved calls take the handle for the time of a call, and leave it as it was */

@@ -2,7 +2,8 @@
  *
  * Octets are a pointer, never NULL, and a length. A number out of its range is TCAP_C_BAD_ARGUMENT.
  * Each export is one event, one output that is taken or one getter; the clock moves by tcap_c_advance
- * alone. A call that doesn't answer TCAP_C_OK has changed and written nothing. */
+ * and, before octets are received, by tcap_c_receive. A call that doesn't answer TCAP_C_OK has changed
+ * and written nothing, but that of tcap_c_receive the clock may have moved. */
 #ifndef TCAP_C_H
 #define TCAP_C_H
 
@@ -25,19 +26,31 @@ enum {
   TCAP_C_ROOM_TOO_SMALL = 19, /* the octets of the output that comes next don't fit */
 };
 
-/* An output: its numbers, as tcap.h has them and in its order, so that a compiler copies them in few moves. Its octets
- * stand at the front of the room, part after part, in the order of the lengths. */
+/* Where a part of an output stands in the room, and how many octets it has. */
+typedef struct {
+  size_t at, len;
+} tcap_c_place;
+
+/* An output, laid out as tcap_output of tcap.h, with places where that has pointers. Its octets stand at the front of
+ * the room, part after part. */
 typedef struct {
   uint64_t event, number;
-  size_t address_len, message_len, context_len, info_len, global_len, parameter_len;
+  tcap_c_place address, message;
+  struct {
+    tcap_c_place context, info;
+  } portion;
+  struct {
+    uint32_t kind;
+    int32_t local;
+    tcap_c_place global;
+  } code;
+  tcap_c_place parameter;
   uint32_t dialogue;
   int16_t invoke_id, linked_id;
   uint16_t problem, cause, diagnostic;
   uint8_t kind, pdu;
   bool closes, is_last, has_context, has_parameter, is_version1, is_accepted, is_by_provider;
-  uint8_t code_kind;
-  int32_t local;
-  bool has_dialogue;
+  bool has_dialogue; /* in an octet that tcap_output doesn't use */
 } tcap_c_out;
 
 /* A block of memory: whether it is given, and where; never NULL. */
@@ -49,35 +62,35 @@ typedef struct {
 /* What both sides rely on (crates/tcap_c/src/output_numbers.rt). */
 #define TCAP_C_AT(type, field, place) _Static_assert(offsetof(type, field) == (place), #field)
 _Static_assert(sizeof(int) == 4 && sizeof(size_t) == 8 && sizeof(bool) == 1, "numbers");
-_Static_assert(sizeof(tcap_c_handle) == 16 && sizeof(tcap_c_out) == 96, "the structs");
+_Static_assert(sizeof(tcap_c_handle) == 16 && sizeof(tcap_c_out) == 144, "the structs");
 _Static_assert(sizeof(rattle_block) == 16, "a block");
 TCAP_C_AT(tcap_c_handle, is_open, 8);
 TCAP_C_AT(rattle_block, at, 8);
 TCAP_C_AT(tcap_c_out, number, 8);
-TCAP_C_AT(tcap_c_out, address_len, 16);
-TCAP_C_AT(tcap_c_out, message_len, 24);
-TCAP_C_AT(tcap_c_out, context_len, 32);
-TCAP_C_AT(tcap_c_out, info_len, 40);
-TCAP_C_AT(tcap_c_out, global_len, 48);
-TCAP_C_AT(tcap_c_out, parameter_len, 56);
-TCAP_C_AT(tcap_c_out, dialogue, 64);
-TCAP_C_AT(tcap_c_out, invoke_id, 68);
-TCAP_C_AT(tcap_c_out, linked_id, 70);
-TCAP_C_AT(tcap_c_out, problem, 72);
-TCAP_C_AT(tcap_c_out, cause, 74);
-TCAP_C_AT(tcap_c_out, diagnostic, 76);
-TCAP_C_AT(tcap_c_out, kind, 78);
-TCAP_C_AT(tcap_c_out, pdu, 79);
-TCAP_C_AT(tcap_c_out, closes, 80);
-TCAP_C_AT(tcap_c_out, is_last, 81);
-TCAP_C_AT(tcap_c_out, has_context, 82);
-TCAP_C_AT(tcap_c_out, has_parameter, 83);
-TCAP_C_AT(tcap_c_out, is_version1, 84);
-TCAP_C_AT(tcap_c_out, is_accepted, 85);
-TCAP_C_AT(tcap_c_out, is_by_provider, 86);
-TCAP_C_AT(tcap_c_out, code_kind, 87);
-TCAP_C_AT(tcap_c_out, local, 88);
-TCAP_C_AT(tcap_c_out, has_dialogue, 92);
+TCAP_C_AT(tcap_c_out, address, 16);
+TCAP_C_AT(tcap_c_out, message, 32);
+TCAP_C_AT(tcap_c_out, portion.context, 48);
+TCAP_C_AT(tcap_c_out, portion.info, 64);
+TCAP_C_AT(tcap_c_out, code.kind, 80);
+TCAP_C_AT(tcap_c_out, code.local, 84);
+TCAP_C_AT(tcap_c_out, code.global, 88);
+TCAP_C_AT(tcap_c_out, parameter, 104);
+TCAP_C_AT(tcap_c_out, dialogue, 120);
+TCAP_C_AT(tcap_c_out, invoke_id, 124);
+TCAP_C_AT(tcap_c_out, linked_id, 126);
+TCAP_C_AT(tcap_c_out, problem, 128);
+TCAP_C_AT(tcap_c_out, cause, 130);
+TCAP_C_AT(tcap_c_out, diagnostic, 132);
+TCAP_C_AT(tcap_c_out, kind, 134);
+TCAP_C_AT(tcap_c_out, pdu, 135);
+TCAP_C_AT(tcap_c_out, closes, 136);
+TCAP_C_AT(tcap_c_out, is_last, 137);
+TCAP_C_AT(tcap_c_out, has_context, 138);
+TCAP_C_AT(tcap_c_out, has_parameter, 139);
+TCAP_C_AT(tcap_c_out, is_version1, 140);
+TCAP_C_AT(tcap_c_out, is_accepted, 141);
+TCAP_C_AT(tcap_c_out, is_by_provider, 142);
+TCAP_C_AT(tcap_c_out, has_dialogue, 143);
 
 /* ---- an engine is opened and closed */
 uint8_t tcap_c_open(tcap_c_handle *, uint32_t max_dialogues, uint32_t max_message,
@@ -86,7 +99,7 @@ uint8_t tcap_c_open(tcap_c_handle *, uint32_t max_dialogues, uint32_t max_messag
 void tcap_c_close(tcap_c_handle *); /* of a closed one: does nothing */
 
 /* ---- events */
-uint8_t tcap_c_receive(tcap_c_handle *, const uint8_t *from, size_t from_len,
+uint8_t tcap_c_receive(tcap_c_handle *, uint64_t now, const uint8_t *from, size_t from_len,
                        const uint8_t *message, size_t message_len);
 uint8_t tcap_c_advance(tcap_c_handle *, uint64_t now);
 

@@ -8,7 +8,7 @@ use Rattle.tcap_pdu.specs.DialogueSpelling.{PduValue, Source}
 use Rattle.tcap_model.specs.Words.Output.{Output, AbortCause, Closing, ComponentIndication, DialogueIndication, DropCause, Rejector}
 use Rattle.tcap_station.specs.WaitingOutput.{WaitingOutput}
 use Rattle.tcap_c.proofs.RoomLemmas.{parts_back}
-use Rattle.tcap_c.specs.Numbers.{numbers_of, id_number, is_some, dialogue_number, problem_number, cause_number, diagnostic_number, drop_number}
+use Rattle.tcap_c.specs.Numbers.{cause_number, diagnostic_number, dialogue_number, drop_number, id_number, is_some, numbers_of, problem_number, with_lengths}
 use Rattle.tcap_c.specs.Parts.{parts_of, lengths_of, octets_if_any}
 use Rattle.tcap_c.specs.ReadingBack.{waiting_in, drop_in, if_so, id_in, problem_in, cause_in, diagnostic_in, output_in}
 use Rattle.tcap_c.specs.declared.output_numbers.OutputNumbers.{OutputNumbers}
@@ -55,12 +55,12 @@ pub octets_back : (octets : Option (List ℕ)) → if_so (is_some octets) (octet
 octets_back None = refl
 octets_back (Some octets) = refl
 
--- ---- the outputs, whatever their event is, and their lengths
+-- ---- the outputs, whatever their event is, and their places
 
 module _ (e : ℕ) (l : Bool) (ls : PartLengths) where
   -- an output is read back from its numbers and its parts
   abbrev IsBack : Output → Type 0
-  IsBack o = output_in (record (numbers_of o) { event = e; is_last = l; lengths = ls }) (parts_of o) ≡ o
+  IsBack o = output_in (with_lengths ls (record (numbers_of o) { event = e; is_last = l })) (parts_of o) ≡ o
 
   dialogue_told_back : (told : DialogueIndication) → IsDialogueTold told → IsBack (Output.dialogue told)
   dialogue_told_back (DialogueIndication.uni context info) t = λ i. Output.dialogue (DialogueIndication.uni (octets_back context i) info)
@@ -137,5 +137,5 @@ read_back w n room shows =
     let ls = lengths_of (parts_of w.output) in
     let read : output_in (told_of w) (parts_of w.output) ≡ w.output = output_back w.event w.is_last ls w.output shows.in_range in
     ap (λ m. waiting_in m room) shows.numbers
-    ∙ ap (λ p. record { output = output_in (told_of w) p; event = w.event; is_last = w.is_last }) (parts_back (parts_of w.output) room shows.octets)
+    ∙ ap (λ p. record { output = output_in (told_of w) p; event = w.event; is_last = w.is_last }) (parts_back (parts_of w.output) (told_of w) room shows.octets)
     ∙ ap (λ (o : Output). record { output = o; event = w.event; is_last = w.is_last }) read

@@ -1,13 +1,13 @@
 -- An output is laid down: its numbers in the struct, its octets at the front of the room.
 use Rattle.std.specs.Prelude.{◌≡◌, ℕ, ◌+◌, ◌<◌, ◌≤◌, Bool, true, false, List, ◌++◌, length, drop}
 use Rattle.tcap_model.specs.Words.Output.{Output, Closing, ComponentIndication, DialogueIndication}
-use Rattle.tcap_c.specs.Numbers.{numbers_of}
+use Rattle.tcap_c.specs.Numbers.{numbers_of, with_lengths}
 use Rattle.tcap_c.specs.Parts.{Parts, count_of, joined, lengths_of, parts_of}
 use Rattle.tcap_c.specs.declared.output_numbers.OutputNumbers.{OutputNumbers}
 
--- The numbers of an output, with the lengths of its parts (own).
+-- The numbers of an output, with the places of its parts (own).
 abbrev pub with_parts : Parts → OutputNumbers → OutputNumbers
-with_parts p n = record n { lengths = lengths_of p }
+with_parts p n = with_lengths (lengths_of p) n
 
 -- Numbers and parts are laid down: these numbers are written, and the parts stand at the front of the room, one after
 -- the other; or they are more than the room, and nothing is written (own).

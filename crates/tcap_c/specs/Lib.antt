@@ -3,6 +3,7 @@ pub mod Codec
 pub mod Handle
 pub mod Kinds
 pub mod Laying
+pub mod Lending
 pub mod Numbers
 pub mod Opening
 pub mod Parts
@@ -10,7 +11,7 @@ pub mod Reading
 pub mod ReadingBack
 pub mod Room
 pub mod Shows
-pub mod Status
 pub mod StateNumbers
+pub mod Status
 pub mod StepForm
 pub mod Writes

@@ -11,6 +11,7 @@ use Rattle.tcap_c.specs.declared.output_kind.OutputKind.{OutputKind}
 use Rattle.tcap_c.specs.declared.output_kind.OutputKind.TheVariants as kind
 use Rattle.tcap_c.specs.declared.output_numbers.OutputNumbers.{OutputNumbers}
 use Rattle.tcap_c.specs.declared.output_numbers.PartLengths.{PartLengths}
+use Rattle.tcap_c.specs.declared.output_numbers.PartPlace.{PartPlace}
 
 -- In place of an identifier: none (own).
 abbrev pub no_id : ℤ
@@ -20,12 +21,23 @@ no_id = pos 256
 abbrev pub no_lengths : PartLengths
 no_lengths = record { address = 0; message = 0; context = 0; info = 0; global = 0; parameter = 0 }
 
+-- No part (own).
+abbrev pub no_place : PartPlace
+no_place = record { at = 0; len = 0 }
+
 -- An output of this number, of which nothing else is said (own).
 abbrev pub bare_numbers : ℕ → OutputNumbers
 bare_numbers kind = record {
   event = 0;
   number = 0;
-  lengths = no_lengths;
+  address = no_place;
+  message = no_place;
+  context = no_place;
+  info = no_place;
+  code_kind = 0;
+  local = pos 0;
+  global = no_place;
+  parameter = no_place;
   dialogue = 0;
   invoke_id = no_id;
   linked_id = no_id;
@@ -41,14 +53,27 @@ bare_numbers kind = record {
   is_version1 = false;
   is_accepted = false;
   is_by_provider = false;
-  code_kind = 0;
-  local = pos 0;
   has_dialogue = false;
 }
 
 -- An output of this kind, of which nothing else is said (own).
 abbrev pub bare : OutputKind → OutputNumbers
 bare kind = bare_numbers (kind_number kind)
+
+-- Its parts have so many octets, and each stands behind the one before (own).
+abbrev pub with_lengths : PartLengths → OutputNumbers → OutputNumbers
+with_lengths l n =
+    let context = l.address + l.message in
+    let info = context + l.context in
+    let global = info + l.info in
+    record n {
+      address = record { at = 0; len = l.address };
+      message = record { at = l.address; len = l.message };
+      context = record { at = context; len = l.context };
+      info = record { at = info; len = l.info };
+      global = record { at = global; len = l.global };
+      parameter = record { at = global + l.global; len = l.parameter };
+    }
 
 -- ---- what is said of it besides
 
@@ -199,7 +224,7 @@ component_numbers (ComponentIndication.remote_reject d id problem by) =
     with_problem problem (with_id id (of_dialogue_if_any d (bare (remote_kind by))))
 component_numbers (ComponentIndication.closed d number id closing) = closing_numbers d number id closing
 
--- An output as numbers, without its event and its lengths (own).
+-- An output as numbers, without its event and its parts (own).
 abbrev pub numbers_of : Output → OutputNumbers
 numbers_of (Output.send to bytes) = bare kind.Send
 numbers_of (Output.dialogue told) = dialogue_numbers told

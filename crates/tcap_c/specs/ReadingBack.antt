@@ -11,24 +11,22 @@ use Rattle.tcap_c.specs.Numbers.{no_id}
 use Rattle.tcap_c.specs.Parts.{Parts}
 use Rattle.tcap_c.specs.Shows.{Shows}
 use Rattle.tcap_c.specs.declared.output_numbers.OutputNumbers.{OutputNumbers}
-use Rattle.tcap_c.specs.declared.output_numbers.PartLengths.{PartLengths}
+use Rattle.tcap_c.specs.declared.output_numbers.PartPlace.{PartPlace}
 
--- The parts in the room, by their lengths (own).
-abbrev pub parts_in : PartLengths → List ℕ → Parts
-parts_in l room =
-    let room-1 = drop l.address room in
-    let room-2 = drop l.message room-1 in
-    let room-3 = drop l.context room-2 in
-    let room-4 = drop l.info room-3 in
-    let room-5 = drop l.global room-4 in
-    record {
-      address = take l.address room;
-      message = take l.message room-1;
-      context = take l.context room-2;
-      info = take l.info room-3;
-      global = take l.global room-4;
-      parameter = take l.parameter room-5;
-    }
+-- A part, by its place in the room (own).
+abbrev pub part_in : PartPlace → List ℕ → List ℕ
+part_in place room = take place.len (drop place.at room)
+
+-- The parts in the room, by their places (own).
+abbrev pub parts_in : OutputNumbers → List ℕ → Parts
+parts_in n room = record {
+  address = part_in n.address room;
+  message = part_in n.message room;
+  context = part_in n.context room;
+  info = part_in n.info room;
+  global = part_in n.global room;
+  parameter = part_in n.parameter room;
+}
 
 -- A value where a flag says that there is one (own).
 abbrev pub if_so : {T : Type 0} → Bool → T → Option T
@@ -154,7 +152,7 @@ output_in n p =
 -- An output that waits, as a program reads it back (own).
 abbrev pub waiting_in : OutputNumbers → List ℕ → WaitingOutput
 waiting_in n room =
-    record { output = output_in n (parts_in n.lengths room); event = n.event; is_last = n.is_last }
+    record { output = output_in n (parts_in n room); event = n.event; is_last = n.is_last }
 
 -- What a struct and a room show is read back from them: it is all there (own).
 abbrev pub IsReadBack : Type 0

@@ -5,7 +5,7 @@ use Rattle.tcap_pdu.specs.DialogueSpelling.{PduValue, Source}
 use Rattle.tcap_model.specs.Words.InRange.{is_identifier, is_identifier_if_any}
 use Rattle.tcap_model.specs.Words.Output.{Output, AbortCause, Closing, ComponentIndication, DialogueIndication}
 use Rattle.tcap_station.specs.WaitingOutput.{WaitingOutput}
-use Rattle.tcap_c.specs.Numbers.{numbers_of}
+use Rattle.tcap_c.specs.Numbers.{numbers_of, with_lengths}
 use Rattle.tcap_c.specs.Parts.{parts_of, joined, lengths_of, count_of}
 use Rattle.tcap_c.specs.declared.output_numbers.OutputNumbers.{OutputNumbers}
 
@@ -79,13 +79,9 @@ IsTold (Output.dropped why) = Unit {0}
 
 -- ---- the struct and the room
 
--- An output that waits, as the struct of C has it: its numbers, its event, and how many octets each part has (own).
+-- An output that waits, as the struct of C has it: its numbers, its event, and where each part stands in the room (own).
 abbrev pub told_of : WaitingOutput → OutputNumbers
-told_of w = record (numbers_of w.output) {
-  event = w.event;
-  is_last = w.is_last;
-  lengths = lengths_of (parts_of w.output);
-}
+told_of w = with_lengths (lengths_of (parts_of w.output)) (record (numbers_of w.output) { event = w.event; is_last = w.is_last })
 
 -- A struct and a room show an output that waits: the numbers are its own, and its octets stand at the front of the
 -- room, one part after the other (own).

@@ -1,5 +1,5 @@
 -- What a call does to the station that a handle keeps: its steps, and what every history says.
-use Rattle.std.specs.Prelude.{◌≡◌, ℕ, Result}
+use Rattle.std.specs.Prelude.{◌≡◌, ◌≢◌, ℕ, Result}
 use Rattle.ber_core.specs.declared.fault.OutOfMemory.{OutOfMemory}
 use Rattle.tcap_model.specs.Table.EngineMove.{engine_move}
 use Rattle.tcap_model.specs.Words.Answer.{Answer}
@@ -45,3 +45,13 @@ pub record Received (event : Event) (status : ℕ) (old new : StationState) : Ty
   pub number : status ≡ received_number answer
   pub moves : TakesReceived answer (engine_move old.engine event) old new
   pub stands : StandsTold answer event old new
+
+-- A moment, and then another event: where the moment is refused, its number is answered and nothing else happens
+-- (own).
+pub record AtMoment (Then : ℕ → StationState → StationState → Type 0) (now status : ℕ) (old new : StationState) : Type 0 where
+  -- the station at the moment, and the number of its answer
+  pub between : StationState
+  pub moment : ℕ
+  pub advanced : Advanced (Event.moment now) moment old between
+  pub refused : moment ≢ 0 → (status ≡ moment) × (new ≡ between)
+  pub taken : moment ≡ 0 → Then status between new

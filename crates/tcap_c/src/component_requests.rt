@@ -16,7 +16,6 @@ ghost use Rattle.tcap_c.specs.Writes.{NothingWritten, Written};
 use crate::arguments;
 use crate::handle::Handle;
 use crate::status::Status;
-use std::alloc::Global;
 use tcap_primitives::Fault;
 
 /// Writes the number that a request answered: its status.
@@ -49,18 +48,17 @@ fn write_dialogue(answer: Result<u32, Fault>, dialogue: &mut u32) -> u8
 
 /// A new dialogue, in which nothing has happened: its identifier is written. Answers 0, 1, 8, 9 or 17.
 #[unsafe(no_mangle)]
-pub extern "C" fn tcap_c_new_dialogue(alloc: Global, handle: &mut Handle, dialogue: &mut u32) -> u8
+pub extern "C" fn tcap_c_new_dialogue(handle: &mut Handle, dialogue: &mut u32) -> u8
     ensures closed { handle.old.is_open ≡ false → Refuses 17 result handle.old handle.new
         × (dialogue.new ≡ dialogue.old) }
     ensures open { handle.new.is_open ≡ handle.old.is_open }
     ensures taken { handle.old.is_open ≡ true → Asked ℕ birth_answer (Written dialogue.old dialogue.new)
         Event.new_dialogue result handle.old.value handle.new.value }
 {
-    let Some(mut station) = handle.take(alloc) else {
+    if !handle.is_open() {
         return Status::NotOpen.number();
-    };
-    let answer = station.new_dialogue();
-    handle.put(station);
+    }
+    let answer = handle.station().new_dialogue();
     write_dialogue(answer, dialogue)
 }
 
@@ -68,7 +66,6 @@ pub extern "C" fn tcap_c_new_dialogue(alloc: Global, handle: &mut Handle, dialog
 /// or 256 for none. Answers 0 to 2, 4, 6, 7, 10 to 12, 16 or 17.
 #[unsafe(no_mangle)]
 pub extern "C" fn tcap_c_invoke(
-    alloc: Global,
     handle: &mut Handle,
     dialogue: u32,
     invoke_id: i32,
@@ -95,10 +92,10 @@ pub extern "C" fn tcap_c_invoke(
     ) else {
         return Status::BadArgument.number();
     };
-    let Some(mut station) = handle.take(alloc) else {
+    if !handle.is_open() {
         return Status::NotOpen.number();
-    };
-    let answer = station.invoke(
+    }
+    let answer = handle.station().invoke(
         dialogue,
         asked.id,
         asked.class,
@@ -107,7 +104,6 @@ pub extern "C" fn tcap_c_invoke(
         asked.linked,
         asked.timeout_ms,
     );
-    handle.put(station);
     write_number(answer, number)
 }
 
@@ -115,7 +111,6 @@ pub extern "C" fn tcap_c_invoke(
 /// 16 or 17.
 #[unsafe(no_mangle)]
 pub extern "C" fn tcap_c_result_l(
-    alloc: Global,
     handle: &mut Handle,
     dialogue: u32,
     invoke_id: i32,
@@ -136,11 +131,10 @@ pub extern "C" fn tcap_c_result_l(
     let Some(asked) = arguments::result_of(invoke_id, code_kind, local, global, parameter) else {
         return Status::BadArgument.number();
     };
-    let Some(mut station) = handle.take(alloc) else {
+    if !handle.is_open() {
         return Status::NotOpen.number();
-    };
-    let answer = station.result_last(dialogue, asked.id, asked.body);
-    handle.put(station);
+    }
+    let answer = handle.station().result_last(dialogue, asked.id, asked.body);
     Status::of_request(answer)
 }
 
@@ -148,7 +142,6 @@ pub extern "C" fn tcap_c_result_l(
 /// `tcap_c_result_l`.
 #[unsafe(no_mangle)]
 pub extern "C" fn tcap_c_result_nl(
-    alloc: Global,
     handle: &mut Handle,
     dialogue: u32,
     invoke_id: i32,
@@ -169,18 +162,16 @@ pub extern "C" fn tcap_c_result_nl(
     let Some(asked) = arguments::result_of(invoke_id, code_kind, local, global, parameter) else {
         return Status::BadArgument.number();
     };
-    let Some(mut station) = handle.take(alloc) else {
+    if !handle.is_open() {
         return Status::NotOpen.number();
-    };
-    let answer = station.result_more(dialogue, asked.id, asked.body);
-    handle.put(station);
+    }
+    let answer = handle.station().result_more(dialogue, asked.id, asked.body);
     Status::of_request(answer)
 }
 
 /// TC-U-ERROR request: the error of an invocation of the peer is queued. Answers as `tcap_c_result_l`.
 #[unsafe(no_mangle)]
 pub extern "C" fn tcap_c_u_error(
-    alloc: Global,
     handle: &mut Handle,
     dialogue: u32,
     invoke_id: i32,
@@ -201,11 +192,12 @@ pub extern "C" fn tcap_c_u_error(
     let Some(asked) = arguments::error_of(invoke_id, code_kind, local, global, parameter) else {
         return Status::BadArgument.number();
     };
-    let Some(mut station) = handle.take(alloc) else {
+    if !handle.is_open() {
         return Status::NotOpen.number();
-    };
-    let answer = station.error_back(dialogue, asked.id, asked.code, asked.parameter);
-    handle.put(station);
+    }
+    let answer = handle
+        .station()
+        .error_back(dialogue, asked.id, asked.code, asked.parameter);
     Status::of_request(answer)
 }
 
@@ -213,7 +205,6 @@ pub extern "C" fn tcap_c_u_error(
 /// `problem` is 256 times its kind and its code, 0 to 127. Answers 0 to 3, 7, 16 or 17.
 #[unsafe(no_mangle)]
 pub extern "C" fn tcap_c_u_reject(
-    alloc: Global,
     handle: &mut Handle,
     dialogue: u32,
     invoke_id: i32,
@@ -230,11 +221,10 @@ pub extern "C" fn tcap_c_u_reject(
     let Some(asked) = arguments::reject_of(invoke_id, problem) else {
         return Status::BadArgument.number();
     };
-    let Some(mut station) = handle.take(alloc) else {
+    if !handle.is_open() {
         return Status::NotOpen.number();
-    };
-    let answer = station.u_reject(dialogue, asked.id, asked.problem);
-    handle.put(station);
+    }
+    let answer = handle.station().u_reject(dialogue, asked.id, asked.problem);
     Status::of_request(answer)
 }
 
@@ -242,7 +232,6 @@ pub extern "C" fn tcap_c_u_reject(
 /// or 17.
 #[unsafe(no_mangle)]
 pub extern "C" fn tcap_c_u_cancel(
-    alloc: Global,
     handle: &mut Handle,
     dialogue: u32,
     invoke_id: i32,
@@ -260,10 +249,9 @@ pub extern "C" fn tcap_c_u_cancel(
     let Some(asked) = arguments::cancel_of(invoke_id) else {
         return Status::BadArgument.number();
     };
-    let Some(mut station) = handle.take(alloc) else {
+    if !handle.is_open() {
         return Status::NotOpen.number();
-    };
-    let answer = station.u_cancel(dialogue, asked.id);
-    handle.put(station);
+    }
+    let answer = handle.station().u_cancel(dialogue, asked.id);
     write_number(answer, number)
 }

@@ -11,14 +11,12 @@ ghost use Rattle.tcap_c.specs.StepForm.{AskedWithin, Refuses};
 use crate::arguments;
 use crate::handle::Handle;
 use crate::status::Status;
-use std::alloc::Global;
 use tcap_address::Address;
 
 /// TC-UNI request: the queue goes out in a Unidirectional, and the dialogue is over. Answers 0 to 3, 7, 11 to 13 or
 /// 15 to 17.
 #[unsafe(no_mangle)]
 pub extern "C" fn tcap_c_uni(
-    alloc: Global,
     handle: &mut Handle,
     dialogue: u32,
     to: &[u8],
@@ -36,11 +34,12 @@ pub extern "C" fn tcap_c_uni(
     let Some(to) = Address::new(to) else {
         return Status::BadArgument.number();
     };
-    let Some(mut station) = handle.take(alloc) else {
+    if !handle.is_open() {
         return Status::NotOpen.number();
-    };
-    let answer = station.uni(dialogue, &to, arguments::octets_of(context), info);
-    handle.put(station);
+    }
+    let answer = handle
+        .station()
+        .uni(dialogue, &to, arguments::octets_of(context), info);
     Status::of_request(answer)
 }
 
@@ -48,7 +47,6 @@ pub extern "C" fn tcap_c_uni(
 /// 12 or 15 to 17.
 #[unsafe(no_mangle)]
 pub extern "C" fn tcap_c_begin(
-    alloc: Global,
     handle: &mut Handle,
     dialogue: u32,
     to: &[u8],
@@ -66,18 +64,18 @@ pub extern "C" fn tcap_c_begin(
     let Some(to) = Address::new(to) else {
         return Status::BadArgument.number();
     };
-    let Some(mut station) = handle.take(alloc) else {
+    if !handle.is_open() {
         return Status::NotOpen.number();
-    };
-    let answer = station.begin(dialogue, &to, arguments::octets_of(context), info);
-    handle.put(station);
+    }
+    let answer = handle
+        .station()
+        .begin(dialogue, &to, arguments::octets_of(context), info);
     Status::of_request(answer)
 }
 
 /// TC-CONTINUE request: the queue goes out in a Continue to the peer's address. Answers 0 to 3, 7, 11, 12, 15 or 17.
 #[unsafe(no_mangle)]
 pub extern "C" fn tcap_c_continue(
-    alloc: Global,
     handle: &mut Handle,
     dialogue: u32,
     context: &[u8],
@@ -89,11 +87,12 @@ pub extern "C" fn tcap_c_continue(
         (Request.dialogue (DialogueRequest.go_on (octets_of context.now) info.now)))
         result handle.old.value handle.new.value }
 {
-    let Some(mut station) = handle.take(alloc) else {
+    if !handle.is_open() {
         return Status::NotOpen.number();
-    };
-    let answer = station.go_on(dialogue, arguments::octets_of(context), info);
-    handle.put(station);
+    }
+    let answer = handle
+        .station()
+        .go_on(dialogue, arguments::octets_of(context), info);
     Status::of_request(answer)
 }
 
@@ -101,7 +100,6 @@ pub extern "C" fn tcap_c_continue(
 /// 0 to 3, 7, 11, 12 or 15 to 17.
 #[unsafe(no_mangle)]
 pub extern "C" fn tcap_c_end(
-    alloc: Global,
     handle: &mut Handle,
     dialogue: u32,
     termination: i32,
@@ -119,24 +117,19 @@ pub extern "C" fn tcap_c_end(
     let Some(ending) = arguments::ending_of(termination) else {
         return Status::BadArgument.number();
     };
-    let Some(mut station) = handle.take(alloc) else {
+    if !handle.is_open() {
         return Status::NotOpen.number();
-    };
-    let answer = station.finish(dialogue, ending, arguments::octets_of(context), info);
-    handle.put(station);
+    }
+    let answer = handle
+        .station()
+        .finish(dialogue, ending, arguments::octets_of(context), info);
     Status::of_request(answer)
 }
 
 /// TC-U-ABORT request: the dialogue is over; `reason` is 0 for the user's own, 1 where it doesn't support the
 /// context. Answers 0 to 3, 7, 12 or 15 to 17.
 #[unsafe(no_mangle)]
-pub extern "C" fn tcap_c_u_abort(
-    alloc: Global,
-    handle: &mut Handle,
-    dialogue: u32,
-    reason: i32,
-    info: &[u8],
-) -> u8
+pub extern "C" fn tcap_c_u_abort(handle: &mut Handle, dialogue: u32, reason: i32, info: &[u8]) -> u8
     ensures bad { reason_of reason ≡ None → Refuses 16 result handle.old handle.new }
     ensures closed { IsSome (reason_of reason) → handle.old.is_open ≡ false
         → Refuses 17 result handle.old handle.new }
@@ -148,10 +141,9 @@ pub extern "C" fn tcap_c_u_abort(
     let Some(why) = arguments::reason_of(reason) else {
         return Status::BadArgument.number();
     };
-    let Some(mut station) = handle.take(alloc) else {
+    if !handle.is_open() {
         return Status::NotOpen.number();
-    };
-    let answer = station.u_abort(dialogue, why, info);
-    handle.put(station);
+    }
+    let answer = handle.station().u_abort(dialogue, why, info);
     Status::of_request(answer)
 }

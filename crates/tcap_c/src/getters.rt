@@ -11,7 +11,6 @@ ghost use Rattle.tcap_c.specs.StepForm.{Refuses};
 
 use crate::handle::Handle;
 use crate::status::Status;
-use std::alloc::Global;
 use tcap_reception::State;
 
 /// The number of a state: 0 where no dialogue stands, 1 Idle, 2 Initiation Sent, 3 Initiation Received, 4 Active.
@@ -30,18 +29,17 @@ fn state_number(state: Option<State>) -> u8
 /// The least moment, in milliseconds, at which `tcap_c_advance` tells something, frees an identifier or ends a
 /// dialogue: it is written. Answers 0, 17, or 18 where no timer runs.
 #[unsafe(no_mangle)]
-pub extern "C" fn tcap_c_next_timer(alloc: Global, handle: &mut Handle, at: &mut u64) -> u8
+pub extern "C" fn tcap_c_next_timer(handle: &mut Handle, at: &mut u64) -> u8
     ensures closed { handle.old.is_open ≡ false → Refuses 17 result handle.old handle.new × (at.new ≡ at.old) }
     ensures open { handle.new.is_open ≡ handle.old.is_open }
     ensures same { handle.old.is_open ≡ true → handle.new.value ≡ handle.old.value }
     ensures value { handle.old.is_open ≡ true → MatchOption (next_timer_in handle.old.value.engine)
         ((result ≡ 18) × (at.new ≡ at.old)) (λ moment. (result ≡ 0) × (at.new ≡ moment)) }
 {
-    let Some(station) = handle.take(alloc) else {
+    if !handle.is_open() {
         return Status::NotOpen.number();
-    };
-    let timer = station.next_timer();
-    handle.put(station);
+    }
+    let timer = handle.station().next_timer();
     match timer {
         Some(moment) => {
             *at = moment;
@@ -54,34 +52,32 @@ pub extern "C" fn tcap_c_next_timer(alloc: Global, handle: &mut Handle, at: &mut
 /// The state of a dialogue: 0 where none stands and of a closed handle, 1 Idle, 2 Initiation Sent, 3 Initiation
 /// Received, 4 Active (Q.774, Transaction state machine).
 #[unsafe(no_mangle)]
-pub extern "C" fn tcap_c_state_of(alloc: Global, handle: &mut Handle, dialogue: u32) -> u8
+pub extern "C" fn tcap_c_state_of(handle: &mut Handle, dialogue: u32) -> u8
     ensures closed { handle.old.is_open ≡ false → Refuses 0 result handle.old handle.new }
     ensures open { handle.new.is_open ≡ handle.old.is_open }
     ensures same { handle.old.is_open ≡ true → handle.new.value ≡ handle.old.value }
     ensures value { handle.old.is_open ≡ true
         → result ≡ state_number (state_in handle.old.value.engine dialogue) }
 {
-    let Some(station) = handle.take(alloc) else {
+    if !handle.is_open() {
         return 0;
-    };
-    let state = station.state_of(dialogue);
-    handle.put(station);
+    }
+    let state = handle.station().state_of(dialogue);
     state_number(state)
 }
 
 /// How many dialogues stand; none of a closed handle.
 #[unsafe(no_mangle)]
-pub extern "C" fn tcap_c_dialogues(alloc: Global, handle: &mut Handle) -> usize
+pub extern "C" fn tcap_c_dialogues(handle: &mut Handle) -> usize
     ensures closed { handle.old.is_open ≡ false → Refuses 0 result handle.old handle.new }
     ensures open { handle.new.is_open ≡ handle.old.is_open }
     ensures same { handle.old.is_open ≡ true → handle.new.value ≡ handle.old.value }
     ensures value { handle.old.is_open ≡ true → result ≡ length handle.old.value.engine.dialogues }
 {
-    let Some(station) = handle.take(alloc) else {
+    if !handle.is_open() {
         return 0;
-    };
-    let count = station.dialogues();
-    handle.put(station);
+    }
+    let count = handle.station().dialogues();
     count
 }
 
@@ -89,7 +85,6 @@ pub extern "C" fn tcap_c_dialogues(alloc: Global, handle: &mut Handle) -> usize
 /// or 17.
 #[unsafe(no_mangle)]
 pub extern "C" fn tcap_c_next_identifiers(
-    alloc: Global,
     handle: &mut Handle,
     dialogue: &mut u32,
     number: &mut u64,
@@ -102,11 +97,11 @@ pub extern "C" fn tcap_c_next_identifiers(
         → (result ≡ 0) × (dialogue.new ≡ handle.old.value.engine.next_dialogue)
         × (number.new ≡ handle.old.value.engine.next_number) }
 {
-    let Some(station) = handle.take(alloc) else {
+    if !handle.is_open() {
         return Status::NotOpen.number();
-    };
+    }
+    let station = handle.station();
     let (next_dialogue, next_number) = station.next_identifiers();
-    handle.put(station);
     *dialogue = next_dialogue;
     *number = next_number;
     Status::Done.number()
@@ -115,7 +110,7 @@ pub extern "C" fn tcap_c_next_identifiers(
 /// For how many outputs `tcap_c_advance` finds room at this moment, in milliseconds, is written: none where it tells
 /// nothing, and else at least as many as it tells. Answers 0 or 17.
 #[unsafe(no_mangle)]
-pub extern "C" fn tcap_c_due(alloc: Global, handle: &mut Handle, now: u64, count: &mut usize) -> u8
+pub extern "C" fn tcap_c_due(handle: &mut Handle, now: u64, count: &mut usize) -> u8
     ensures closed { handle.old.is_open ≡ false
         → Refuses 17 result handle.old handle.new × (count.new ≡ count.old) }
     ensures open { handle.new.is_open ≡ handle.old.is_open }
@@ -127,11 +122,10 @@ pub extern "C" fn tcap_c_due(alloc: Global, handle: &mut Handle, now: u64, count
     ensures some { handle.old.is_open ≡ true → count.new ≢ 0
         → outputs_in (engine_move handle.old.value.engine (Event.moment now)).answer ≢ [] }
 {
-    let Some(station) = handle.take(alloc) else {
+    if !handle.is_open() {
         return Status::NotOpen.number();
-    };
-    let due = station.due(now);
-    handle.put(station);
+    }
+    let due = handle.station().due(now);
     *count = due;
     Status::Done.number()
 }

@@ -1,5 +1,7 @@
 //! What C holds: a station on the heap, or nothing.
 
+mod lending;
+
 ghost use Rattle.std.specs.Prelude.{◌≡◌, true, false, MatchOption};
 ghost use Rattle.tcap_station.specs.Station.{StationState};
 ghost use Rattle.tcap_c.specs.Handle.{handle_owns, station_coded};

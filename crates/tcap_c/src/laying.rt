@@ -65,10 +65,7 @@ fn lay(
 pub(crate) fn lay_alone(numbers: &mut OutputNumbers, told: OutputNumbers) -> bool
     ensures { (result ≡ true) × (numbers.new ≡ with_parts no_parts told) }
 {
-    *numbers = OutputNumbers {
-        lengths: PartLengths::none(),
-        ..told
-    };
+    *numbers = told.with_lengths(PartLengths::none());
     true
 }
 
@@ -87,10 +84,7 @@ pub(crate) fn lay_sent(
         message: message.len(),
         ..PartLengths::none()
     };
-    let sent = OutputNumbers {
-        lengths,
-        ..OutputNumbers::bare(OutputKind::Send)
-    };
+    let sent = OutputNumbers::bare(OutputKind::Send).with_lengths(lengths);
     lay(numbers, room, sent, to, message)
 }
 
@@ -110,13 +104,7 @@ fn lay_named(
         info: info.len(),
         ..PartLengths::none()
     };
-    lay(
-        numbers,
-        room,
-        OutputNumbers { lengths, ..told },
-        context,
-        info,
-    )
+    lay(numbers, room, told.with_lengths(lengths), context, info)
 }
 
 /// An indication with a dialogue portion.
@@ -152,13 +140,7 @@ fn lay_code(
         parameter: parameter.len(),
         ..PartLengths::none()
     };
-    lay(
-        numbers,
-        room,
-        OutputNumbers { lengths, ..told },
-        global,
-        parameter,
-    )
+    lay(numbers, room, told.with_lengths(lengths), global, parameter)
 }
 
 /// An indication with a code and a parameter.

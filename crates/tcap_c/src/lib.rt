@@ -18,7 +18,6 @@ mod output_kind;
 mod output_numbers;
 mod reading;
 mod room;
-mod showing;
 mod status;
 mod telling;
 mod told_ranges;

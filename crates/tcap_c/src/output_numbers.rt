@@ -1,33 +1,26 @@
-//! An output as C sees it: its numbers, and how many octets it has.
+//! An output as C sees it: its numbers, and where its octets stand in the room.
 
-ghost use Rattle.std.specs.Prelude.{◌≡◌};
-ghost use Rattle.tcap_c.specs.Numbers.{bare, no_lengths};
+ghost use Rattle.std.specs.Prelude.{◌≡◌, ◌<◌, ◌^◌};
+ghost use Rattle.tcap_c.specs.Numbers.{bare, no_lengths, with_lengths};
+ghost use Rattle.tcap_c.specs.Parts.{count_of};
 
 use crate::output_kind::OutputKind;
 
 /// In place of an invoke identifier, -128 to 127: none (our own).
 pub(crate) const NO_ID: i16 = 256;
 
-/// How many octets each part of an output has, in the order in which they stand in the room.
+/// Where a part of an output stands in the room.
 #[repr(C)]
 #[derive(Clone, Copy)]
-pub struct PartLengths {
-    /// The address to which a message goes.
-    pub address: usize,
-    /// The message that is sent.
-    pub message: usize,
-    /// The contents octets of the application context name.
-    pub context: usize,
-    /// The user information.
-    pub info: usize,
-    /// The contents octets of a global operation or error code.
-    pub global: usize,
-    /// The octets of the parameter's element.
-    pub parameter: usize,
+pub struct PartPlace {
+    /// Where it begins, from 0 on.
+    pub at: usize,
+    /// How many octets it has.
+    pub len: usize,
 }
 
-/// An output as numbers; what its kind doesn't have is 0, and an identifier `NO_ID`. Its octets stand at the front
-/// of the room (our own).
+/// An output as numbers, laid out as `tcap_output` of include/tcap.h; what its kind doesn't have is 0, and an
+/// identifier `NO_ID`. Its octets stand at the front of the room, part behind part (our own).
 #[repr(C)]
 #[derive(Clone, Copy)]
 pub struct OutputNumbers {
@@ -35,7 +28,22 @@ pub struct OutputNumbers {
     pub event: u64,
     /// The number of the invocation, that the TC-INVOKE request answered.
     pub number: u64,
-    pub lengths: PartLengths,
+    /// The address to which a message goes.
+    pub address: PartPlace,
+    /// The message that is sent.
+    pub message: PartPlace,
+    /// The contents octets of the application context name.
+    pub context: PartPlace,
+    /// The user information.
+    pub info: PartPlace,
+    /// 0: no code; 1: a local one; 2: a global one.
+    pub code_kind: u32,
+    /// A local operation or error code.
+    pub local: i32,
+    /// The contents octets of a global operation or error code.
+    pub global: PartPlace,
+    /// The octets of the parameter's element.
+    pub parameter: PartPlace,
     /// The identifier of the dialogue.
     pub dialogue: u32,
     /// Invoke identifier, -128 to 127.
@@ -65,11 +73,29 @@ pub struct OutputNumbers {
     pub is_accepted: bool,
     /// The ABRT is by the dialogue service provider.
     pub is_by_provider: bool,
-    /// 0: no code; 1: a local one; 2: a global one.
-    pub code_kind: u8,
-    /// A local operation or error code.
-    pub local: i32,
+    /// In an octet that `tcap_output` doesn't use.
     pub has_dialogue: bool,
+}
+
+/// How many octets each part of an output has, in the order in which they stand in the room.
+#[derive(Clone, Copy)]
+pub struct PartLengths {
+    pub address: usize,
+    pub message: usize,
+    pub context: usize,
+    pub info: usize,
+    pub global: usize,
+    pub parameter: usize,
+}
+
+impl PartPlace {
+    /// So many octets, from there on.
+    #[inline(always)]
+    fn new(at: usize, len: usize) -> PartPlace
+        ensures { result ≡ record { at = at; len = len } }
+    {
+        PartPlace { at, len }
+    }
 }
 
 impl OutputNumbers {
@@ -81,7 +107,14 @@ impl OutputNumbers {
         OutputNumbers {
             event: 0,
             number: 0,
-            lengths: PartLengths::none(),
+            address: PartPlace::new(0, 0),
+            message: PartPlace::new(0, 0),
+            context: PartPlace::new(0, 0),
+            info: PartPlace::new(0, 0),
+            code_kind: 0,
+            local: 0,
+            global: PartPlace::new(0, 0),
+            parameter: PartPlace::new(0, 0),
             dialogue: 0,
             invoke_id: NO_ID,
             linked_id: NO_ID,
@@ -97,9 +130,28 @@ impl OutputNumbers {
             is_version1: false,
             is_accepted: false,
             is_by_provider: false,
-            code_kind: 0,
-            local: 0,
             has_dialogue: false,
+        }
+    }
+
+    /// Its parts have so many octets, and each stands behind the one before.
+    #[inline(always)]
+    pub(crate) fn with_lengths(self, lengths: PartLengths) -> OutputNumbers
+        requires { count_of lengths < 2 ^ 64 }
+        ensures { result ≡ with_lengths lengths self }
+    {
+        let context = lengths.address + lengths.message;
+        let info = context + lengths.context;
+        let global = info + lengths.info;
+        let parameter = global + lengths.global;
+        OutputNumbers {
+            address: PartPlace::new(0, lengths.address),
+            message: PartPlace::new(lengths.address, lengths.message),
+            context: PartPlace::new(context, lengths.context),
+            info: PartPlace::new(info, lengths.info),
+            global: PartPlace::new(global, lengths.global),
+            parameter: PartPlace::new(parameter, lengths.parameter),
+            ..self
         }
     }
 }

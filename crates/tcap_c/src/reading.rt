@@ -1,29 +1,36 @@
 //! The outputs that wait are taken, one at a time.
 
 ghost use Rattle.std.specs.Prelude.{◌≡◌, true, false};
-ghost use Rattle.tcap_c.specs.Reading.{IsFrontShown, TakesFront};
+ghost use Rattle.tcap_c.specs.Reading.{TakesFront};
 ghost use Rattle.tcap_c.specs.StepForm.{Refuses};
 
 use crate::handle::Handle;
 use crate::output_numbers::OutputNumbers;
-use crate::showing::show;
 use crate::status::Status;
+use crate::telling::tell;
+use crate::told_ranges;
 use std::alloc::Global;
 use tcap_station::Station;
 
-/// Shows the output that comes next, if one waits and fits: the status. It stays where it waits.
-#[inline(always)]
-fn show_front(station: &Station<Global>, numbers: &mut OutputNumbers, room: &mut [u8]) -> Status
-    ensures { IsFrontShown station.now.waiting result numbers.old numbers.new room.old room.new }
+/// Takes the output that comes next, which is laid down, if one waits and fits: the status.
+// Out of line, so that a call where nothing waits saves no registers.
+#[inline(never)]
+fn take_front(station: &mut Station<Global>, numbers: &mut OutputNumbers, room: &mut [u8]) -> u8
+    ensures { TakesFront station.old.waiting result station.old station.new numbers.old numbers.new
+        room.old room.new }
 {
-    let Some(waiting) = station.front() else {
-        return Status::Nothing;
+    let Some(output) = station.kept_front() else {
+        return Status::Nothing.number();
     };
-    if show(&waiting, numbers, room) {
-        Status::Done
-    } else {
-        Status::RoomTooSmall
+    told_ranges::output(output.octets, output.record);
+    if !tell(numbers, room, output.octets, output.record) {
+        return Status::RoomTooSmall.number();
     }
+    if let Some(answering) = station.take_front() {
+        numbers.event = answering.event;
+        numbers.is_last = answering.is_last;
+    }
+    Status::Done.number()
 }
 
 /// Takes the output that comes next: its numbers are written, its octets stand at the front of the room, what lies
@@ -31,7 +38,6 @@ fn show_front(station: &Station<Global>, numbers: &mut OutputNumbers, room: &mut
 /// room is too small; nothing has changed then.
 #[unsafe(no_mangle)]
 pub extern "C" fn tcap_c_next(
-    alloc: Global,
     handle: &mut Handle,
     numbers: &mut OutputNumbers,
     room: &mut [u8],
@@ -42,13 +48,12 @@ pub extern "C" fn tcap_c_next(
     ensures taken { handle.old.is_open ≡ true → TakesFront handle.old.value.waiting result
         handle.old.value handle.new.value numbers.old numbers.new room.old room.new }
 {
-    let Some(mut station) = handle.take(alloc) else {
+    if !handle.is_open() {
         return Status::NotOpen.number();
-    };
-    let status = show_front(&station, numbers, room);
-    if let Status::Done = status {
-        station.remove_front();
     }
-    handle.put(station);
-    status.number()
+    let station = handle.station();
+    if !station.is_waiting() {
+        return Status::Nothing.number();
+    }
+    take_front(station, numbers, room)
 }

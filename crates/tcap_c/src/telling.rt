@@ -1,17 +1,19 @@
 //! An output as numbers in a struct and octets in a room, kind by kind.
 
-ghost use Rattle.std.specs.Prelude.{◌≡◌, true};
-ghost use Rattle.tcap_primitives.specs.IndicationViews.{indicated};
-ghost use Rattle.tcap_primitives.specs.OutboxViews.{output_ref_view};
-ghost use Rattle.tcap_c.specs.Laying.{IsOfClosing, IsOfComponent, IsOfPortion, IsOfReject, IsOutputLaid, with_parts};
-ghost use Rattle.tcap_c.specs.Numbers.{bare, closing_of, numbers_of};
-ghost use Rattle.tcap_c.specs.Parts.{no_parts};
+ghost use Rattle.std.specs.Prelude.{[], ◌≡◌, true};
+ghost use Rattle.tcap_primitives.specs.OutboxReading.{body_read, context_read, info_read, output_read};
+ghost use Rattle.tcap_primitives.specs.OutboxSpans.{BodyFits, PortionFits, RecordFits};
+ghost use Rattle.tcap_c.specs.Laying.{IsLaid, IsOfClosing, IsOfComponent, IsOfPortion, IsOfReject, IsOutputLaid, with_parts};
+ghost use Rattle.tcap_c.specs.Numbers.{bare, closing_of, numbers_of, with_code, with_context, with_parameter};
+ghost use Rattle.tcap_c.specs.Parts.{coded_parts, no_parts, octets_if_any, portion_parts};
 
 use crate::laying::{lay_alone, lay_body, lay_coded, lay_pdu, lay_portion, lay_sent};
 use crate::numbering::{cause_number, drop_number};
 use crate::output_kind::OutputKind;
 use crate::output_numbers::OutputNumbers;
-use tcap_primitives::{Indication, OutputRef};
+use tcap_primitives::kept::{
+    BodyRecord, PortionRecord, Record, abort_of, body_of, code_of, optional_part, part,
+};
 
 /// The numbers of an output of this kind that closes an invocation.
 #[inline(always)]
@@ -21,40 +23,64 @@ fn closing(kind: OutputKind, dialogue: u32, number: u64, id: i8) -> OutputNumber
     OutputNumbers::bare(kind).closing(dialogue, number, id)
 }
 
+/// An indication with this dialogue portion.
+#[inline(always)]
+fn lay_kept_portion(
+    numbers: &mut OutputNumbers,
+    room: &mut [u8],
+    told: OutputNumbers,
+    octets: &[u8],
+    portion: PortionRecord,
+) -> bool
+    requires { PortionFits octets.now portion }
+    ensures { let c = context_read octets.now portion in IsLaid (with_context c told)
+        (portion_parts (octets_if_any c) (info_read octets.now portion)) result
+        numbers.old numbers.new room.old room.new }
+{
+    let context = optional_part(octets, portion.context);
+    lay_portion(numbers, room, told, context, part(octets, portion.info))
+}
+
+/// An indication with this code and parameter.
+#[inline(always)]
+fn lay_kept_body(
+    numbers: &mut OutputNumbers,
+    room: &mut [u8],
+    told: OutputNumbers,
+    octets: &[u8],
+    body: BodyRecord,
+) -> bool
+    requires { BodyFits octets.now body }
+    ensures { let b = body_read octets.now body in IsLaid (with_parameter b.parameter (with_code b.code told))
+        (coded_parts b.code b.parameter) result numbers.old numbers.new room.old room.new }
+{
+    let parameter = optional_part(octets, body.parameter);
+    lay_coded(numbers, room, told, code_of(octets, body.code), parameter)
+}
+
 /// An indication with a dialogue portion.
 #[inline(always)]
-fn tell_portion(numbers: &mut OutputNumbers, room: &mut [u8], told: &Indication<'_>) -> bool
-    requires { IsOfPortion (indicated told.now) }
-    ensures { IsOutputLaid (indicated told.now) result numbers.old numbers.new room.old room.new }
+fn tell_portion(numbers: &mut OutputNumbers, room: &mut [u8], octets: &[u8], told: &Record) -> bool
+    requires fits { RecordFits octets.now told.now }
+    requires group { IsOfPortion (output_read octets.now told.now) }
+    ensures { IsOutputLaid (output_read octets.now told.now) result numbers.old numbers.new room.old room.new }
 {
     match *told {
-        Indication::Uni { context, info } => {
+        Record::Uni { portion } => {
             let uni = OutputNumbers::bare(OutputKind::Uni);
-            lay_portion(numbers, room, uni, context, info)
+            lay_kept_portion(numbers, room, uni, octets, portion)
         }
-        Indication::Begin {
-            dialogue,
-            context,
-            info,
-        } => {
+        Record::Begin { dialogue, portion } => {
             let begin = OutputNumbers::bare(OutputKind::Begin).of_dialogue(dialogue);
-            lay_portion(numbers, room, begin, context, info)
+            lay_kept_portion(numbers, room, begin, octets, portion)
         }
-        Indication::Continue {
-            dialogue,
-            context,
-            info,
-        } => {
+        Record::Continue { dialogue, portion } => {
             let go_on = OutputNumbers::bare(OutputKind::Continue).of_dialogue(dialogue);
-            lay_portion(numbers, room, go_on, context, info)
+            lay_kept_portion(numbers, room, go_on, octets, portion)
         }
-        Indication::End {
-            dialogue,
-            context,
-            info,
-        } => {
+        Record::End { dialogue, portion } => {
             let end = OutputNumbers::bare(OutputKind::End).of_dialogue(dialogue);
-            lay_portion(numbers, room, end, context, info)
+            lay_kept_portion(numbers, room, end, octets, portion)
         }
         // No other is of this group.
         _ => unreachable!(),
@@ -63,23 +89,28 @@ fn tell_portion(numbers: &mut OutputNumbers, room: &mut [u8], told: &Indication<
 
 /// An Invoke, or a result that others follow.
 #[inline(always)]
-fn tell_component(numbers: &mut OutputNumbers, room: &mut [u8], told: &Indication<'_>) -> bool
-    requires { IsOfComponent (indicated told.now) }
-    ensures { IsOutputLaid (indicated told.now) result numbers.old numbers.new room.old room.new }
+fn tell_component(
+    numbers: &mut OutputNumbers,
+    room: &mut [u8],
+    octets: &[u8],
+    told: &Record,
+) -> bool
+    requires fits { RecordFits octets.now told.now }
+    requires group { IsOfComponent (output_read octets.now told.now) }
+    ensures { IsOutputLaid (output_read octets.now told.now) result numbers.old numbers.new room.old room.new }
 {
     match *told {
-        Indication::Invoked {
+        Record::Invoked {
             dialogue,
             id,
             linked,
-            code,
-            parameter,
+            body,
         } => {
             let invoke = OutputNumbers::bare(OutputKind::Invoke).of_dialogue_if_any(dialogue);
             let invoke = invoke.with_id(Some(id)).with_linked(linked);
-            lay_coded(numbers, room, invoke, code, parameter)
+            lay_kept_body(numbers, room, invoke, octets, body)
         }
-        Indication::ResultMore {
+        Record::ResultMore {
             dialogue,
             number,
             id,
@@ -87,7 +118,7 @@ fn tell_component(numbers: &mut OutputNumbers, room: &mut [u8], told: &Indicatio
         } => {
             let result = OutputNumbers::bare(OutputKind::ResultNotLast);
             let result = result.of_invocation(dialogue, number, id);
-            lay_body(numbers, room, result, body)
+            lay_body(numbers, room, result, body_of(octets, body))
         }
         // No other is of this group.
         _ => unreachable!(),
@@ -96,36 +127,36 @@ fn tell_component(numbers: &mut OutputNumbers, room: &mut [u8], told: &Indicatio
 
 /// The closing of an invocation, but by a Reject.
 #[inline(always)]
-fn tell_closing(numbers: &mut OutputNumbers, room: &mut [u8], told: &Indication<'_>) -> bool
-    requires { IsOfClosing (indicated told.now) }
-    ensures { IsOutputLaid (indicated told.now) result numbers.old numbers.new room.old room.new }
+fn tell_closing(numbers: &mut OutputNumbers, room: &mut [u8], octets: &[u8], told: &Record) -> bool
+    requires fits { RecordFits octets.now told.now }
+    requires group { IsOfClosing (output_read octets.now told.now) }
+    ensures { IsOutputLaid (output_read octets.now told.now) result numbers.old numbers.new room.old room.new }
 {
     match *told {
-        Indication::ResultLast {
+        Record::ResultLast {
             dialogue,
             number,
             id,
             body,
         } => {
             let result = closing(OutputKind::ResultLast, dialogue, number, id);
-            lay_body(numbers, room, result, body)
+            lay_body(numbers, room, result, body_of(octets, body))
         }
-        Indication::ErrorBack {
+        Record::ErrorBack {
             dialogue,
             number,
             id,
-            code,
-            parameter,
+            body,
         } => {
             let error = closing(OutputKind::Error, dialogue, number, id);
-            lay_coded(numbers, room, error, code, parameter)
+            lay_kept_body(numbers, room, error, octets, body)
         }
-        Indication::Lapsed {
+        Record::Lapsed {
             dialogue,
             number,
             id,
         } => lay_alone(numbers, closing(OutputKind::Cancel, dialogue, number, id)),
-        Indication::Ended {
+        Record::Ended {
             dialogue,
             number,
             id,
@@ -137,12 +168,12 @@ fn tell_closing(numbers: &mut OutputNumbers, room: &mut [u8], told: &Indication<
 
 /// A Reject.
 #[inline(always)]
-fn tell_reject(numbers: &mut OutputNumbers, told: &Indication<'_>) -> bool
-    requires { IsOfReject (indicated told.now) }
-    ensures { (result ≡ true) × (numbers.new ≡ with_parts no_parts (numbers_of (indicated told.now))) }
+fn tell_reject(numbers: &mut OutputNumbers, told: &Record) -> bool
+    requires { IsOfReject (output_read [] told.now) }
+    ensures { (result ≡ true) × (numbers.new ≡ with_parts no_parts (numbers_of (output_read [] told.now))) }
 {
     match *told {
-        Indication::LocalReject {
+        Record::LocalReject {
             dialogue,
             id,
             problem,
@@ -150,7 +181,7 @@ fn tell_reject(numbers: &mut OutputNumbers, told: &Indication<'_>) -> bool
             let reject = OutputNumbers::bare(OutputKind::LocalReject).of_dialogue_if_any(dialogue);
             lay_alone(numbers, reject.with_id(id).with_problem(problem))
         }
-        Indication::RemoteReject {
+        Record::RemoteReject {
             dialogue,
             id,
             problem,
@@ -160,7 +191,7 @@ fn tell_reject(numbers: &mut OutputNumbers, told: &Indication<'_>) -> bool
             let reject = reject.of_dialogue_if_any(dialogue).with_id(id);
             lay_alone(numbers, reject.with_problem(problem))
         }
-        Indication::Rejected {
+        Record::Rejected {
             dialogue,
             number,
             id,
@@ -175,48 +206,47 @@ fn tell_reject(numbers: &mut OutputNumbers, told: &Indication<'_>) -> bool
     }
 }
 
-/// An indication.
+/// Lays down an output, its event left out, if its octets fit: whether they do.
 #[inline(always)]
-fn tell_indication(numbers: &mut OutputNumbers, room: &mut [u8], told: &Indication<'_>) -> bool
-    ensures { IsOutputLaid (indicated told.now) result numbers.old numbers.new room.old room.new }
+pub(crate) fn tell(
+    numbers: &mut OutputNumbers,
+    room: &mut [u8],
+    octets: &[u8],
+    kept: &Record,
+) -> bool
+    requires { RecordFits octets.now kept.now }
+    ensures { IsOutputLaid (output_read octets.now kept.now) result numbers.old numbers.new room.old room.new }
 {
-    match *told {
-        Indication::Uni { .. }
-        | Indication::Begin { .. }
-        | Indication::Continue { .. }
-        | Indication::End { .. } => tell_portion(numbers, room, told),
-        Indication::UAbort { dialogue, pdu } => {
+    match *kept {
+        Record::Send { to, bytes } => lay_sent(
+            numbers,
+            room,
+            part(octets, to),
+            part(octets, bytes),
+        ),
+        Record::Uni { .. } | Record::Begin { .. } | Record::Continue { .. } | Record::End { .. } =>
+            tell_portion(numbers, room, octets, kept),
+        Record::UAbort { dialogue, pdu } => {
             let abort = OutputNumbers::bare(OutputKind::UserAbort).of_dialogue(dialogue);
-            lay_pdu(numbers, room, abort, pdu)
+            lay_pdu(numbers, room, abort, abort_of(octets, pdu))
         }
-        Indication::PAbort { dialogue, why } => {
+        Record::PAbort { dialogue, why } => {
             let abort = OutputNumbers::bare(OutputKind::ProviderAbort).of_dialogue(dialogue);
             lay_alone(numbers, abort.with_cause(cause_number(why)))
         }
-        Indication::Invoked { .. } | Indication::ResultMore { .. } => {
-            tell_component(numbers, room, told)
+        Record::Invoked { .. } | Record::ResultMore { .. } => {
+            tell_component(numbers, room, octets, kept)
         }
-        Indication::ResultLast { .. }
-        | Indication::ErrorBack { .. }
-        | Indication::Lapsed { .. }
-        | Indication::Ended { .. } => tell_closing(numbers, room, told),
-        Indication::LocalReject { .. }
-        | Indication::RemoteReject { .. }
-        | Indication::Rejected { .. } => tell_reject(numbers, told),
-        Indication::Dropped(why) => {
+        Record::ResultLast { .. }
+        | Record::ErrorBack { .. }
+        | Record::Lapsed { .. }
+        | Record::Ended { .. } => tell_closing(numbers, room, octets, kept),
+        Record::LocalReject { .. } | Record::RemoteReject { .. } | Record::Rejected { .. } => {
+            tell_reject(numbers, kept)
+        }
+        Record::Dropped(why) => {
             let dropped = OutputNumbers::bare(OutputKind::Dropped);
             lay_alone(numbers, dropped.with_cause(drop_number(why)))
         }
-    }
-}
-
-/// Lays down an output, its event left out, if its octets fit: whether they do.
-#[inline(always)]
-pub(crate) fn tell(numbers: &mut OutputNumbers, room: &mut [u8], output: &OutputRef<'_>) -> bool
-    ensures { IsOutputLaid (output_ref_view output.now) result numbers.old numbers.new room.old room.new }
-{
-    match *output {
-        OutputRef::Send { to, bytes } => lay_sent(numbers, room, to, bytes),
-        OutputRef::Indication(ref told) => tell_indication(numbers, room, told),
     }
 }

@@ -4,15 +4,15 @@
 ghost use Rattle.std.specs.Prelude.{IsTrue, ◌<◌};
 ghost use Rattle.std.specs.Option.{option_map};
 ghost use Rattle.tcap_component.specs.Views.{problem_parts};
-ghost use Rattle.tcap_pdu.specs.DialogueViews.{pdu_value, source};
-ghost use Rattle.tcap_primitives.specs.IndicationViews.{indicated};
-ghost use Rattle.tcap_primitives.specs.OutboxViews.{output_ref_view};
+ghost use Rattle.tcap_pdu.specs.DialogueViews.{source};
+ghost use Rattle.tcap_primitives.specs.OutboxReading.{output_read, pdu_read};
 ghost use Rattle.tcap_primitives.specs.OutputViews.{cause_view};
 ghost use Rattle.tcap_c.specs.Shows.{IsCause, IsCoded, IsDiagnostic, IsIdIfAny, IsPdu, IsTold};
 
 use tcap_component::Problem;
-use tcap_pdu::{Diagnostic, DialoguePdu};
-use tcap_primitives::{Indication, OutputRef, Why};
+use tcap_pdu::Diagnostic;
+use tcap_primitives::Why;
+use tcap_primitives::kept::{PduRecord, Record};
 
 /// An octet is below 256.
 fn octet(number: u8)
@@ -53,11 +53,11 @@ fn diagnostic(given: Diagnostic)
 }
 
 /// That of a dialogue PDU, if there is one, is one octet.
-fn pdu(given: Option<DialoguePdu<'_>>)
-    ensures { IsPdu (option_map pdu_value given.entry) }
+fn pdu(octets: &[u8], given: Option<PduRecord>)
+    ensures { IsPdu (option_map (pdu_read octets.now) given) }
 {
     if let Some(
-        DialoguePdu::Aare {
+        PduRecord::Aare {
             diagnostic: given,
             ..
         },
@@ -67,49 +67,41 @@ fn pdu(given: Option<DialoguePdu<'_>>)
     }
 }
 
-/// The numbers of an indication.
-fn indication(told: Indication<'_>)
-    ensures { IsTold (indicated told.entry) }
-{
-    match told {
-        Indication::UAbort { pdu: given, .. } => pdu(given),
-        Indication::PAbort { why, .. } => cause(why),
-        Indication::Invoked { linked, .. } => id_if_any(linked),
-        Indication::LocalReject {
-            id,
-            problem: given,
-            ..
-        } => {
-            id_if_any(id);
-            problem(given);
-        }
-        Indication::RemoteReject {
-            id,
-            problem: given,
-            ..
-        } => {
-            id_if_any(id);
-            problem(given);
-        }
-        Indication::Rejected { problem: given, .. } => problem(given),
-        Indication::Uni { .. }
-        | Indication::Begin { .. }
-        | Indication::Continue { .. }
-        | Indication::End { .. }
-        | Indication::ResultMore { .. }
-        | Indication::ResultLast { .. }
-        | Indication::ErrorBack { .. }
-        | Indication::Lapsed { .. }
-        | Indication::Ended { .. }
-        | Indication::Dropped(_) => {}
-    }
-}
-
 /// The numbers of an output.
-pub(crate) fn output(given: OutputRef<'_>)
-    ensures { IsTold (output_ref_view given.entry) }
+pub(crate) fn output(octets: &[u8], told: &Record)
+    ensures { IsTold (output_read octets.now told.now) }
 {
-    if let OutputRef::Indication(told) = given {
-        indication(told);
+    match *told {
+        Record::UAbort { pdu: given, .. } => pdu(octets, given),
+        Record::PAbort { why, .. } => cause(why),
+        Record::Invoked { linked, .. } => id_if_any(linked),
+        Record::LocalReject {
+            id,
+            problem: given,
+            ..
+        } => {
+            id_if_any(id);
+            problem(given);
+        }
+        Record::RemoteReject {
+            id,
+            problem: given,
+            ..
+        } => {
+            id_if_any(id);
+            problem(given);
+        }
+        Record::Rejected { problem: given, .. } => problem(given),
+        Record::Send { .. }
+        | Record::Uni { .. }
+        | Record::Begin { .. }
+        | Record::Continue { .. }
+        | Record::End { .. }
+        | Record::ResultMore { .. }
+        | Record::ResultLast { .. }
+        | Record::ErrorBack { .. }
+        | Record::Lapsed { .. }
+        | Record::Ended { .. }
+        | Record::Dropped(_) => {}
     }
 }
