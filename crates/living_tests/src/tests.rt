@@ -3,4 +3,6 @@
 mod command;
 mod devices;
 mod growths;
+mod json;
 mod lines;
+mod mistakes;

@@ -141,7 +141,8 @@ fn add_expectation<A: Allocator + Copy>(
     words: &str,
     expected: Expected,
 ) -> Result<(), OutOfMemory>
-    ensures { OnOk result (string_bytes text.new ≡ string_bytes text.old ++ (words.now ++ expected_words expected)) }
+    ensures { OnOk result (string_bytes text.new ≡ string_bytes text.old
+        ++ (words.now ++ expected_words expected)) }
 {
     text.push_str(words)?;
     add_expected(text, expected)

@@ -45,7 +45,8 @@ fn words_fault(
     rest: Option<&[u8]>,
 ) -> Option<LineFault>
     requires { number + left rest ≤ 18446744073709551615 }
-    ensures { result ≡ walk number before.now (map (λ expected. Wanted.what expected) words.now) (pieces_left 32 rest.entry) }
+    ensures { result ≡ walk number before.now (map (λ expected. Wanted.what expected) words.now)
+        (pieces_left 32 rest.entry) }
 {
     let mut number = number;
     let mut before = before;
@@ -79,8 +80,10 @@ fn form_fault(
     rest: Option<&[u8]>,
 ) -> Option<LineFault>
     requires { number + left rest ≤ 18446744073709551614 }
-    ensures { (before : List ℕ) (names : List (List ℕ)) → is_listed names name.now ≡ is_listed (names_of (forms_view forms.now)) name.now
-        → result ≡ walk number before (Wanted.any_of names ∷ wanted_behind (words_named name.now (forms_view forms.now))) (name.now ∷ pieces_left 32 rest.entry) }
+    ensures { (before : List ℕ) (names : List (List ℕ))
+        → is_listed names name.now ≡ is_listed (names_of (forms_view forms.now)) name.now
+        → result ≡ walk number before (Wanted.any_of names ∷ wanted_behind (words_named name.now (forms_view forms.now)))
+        (name.now ∷ pieces_left 32 rest.entry) }
 {
     match words_named(forms, name) {
         Some(words) => words_fault(number + 1, name, words, rest),
@@ -94,7 +97,8 @@ fn form_fault(
 /// What is wrong first behind a side, if anything.
 fn side_fault(forms: &[Form<'_>], rest: Option<&[u8]>) -> Option<LineFault>
     requires { 2 + left rest ≤ 18446744073709551615 }
-    ensures { (before : List ℕ) → result ≡ walk 2 before (wanted_by_name (forms_view forms.now) (pieces_left 32 rest.entry)) (pieces_left 32 rest.entry) }
+    ensures { (before : List ℕ) → result
+        ≡ walk 2 before (wanted_by_name (forms_view forms.now) (pieces_left 32 rest.entry)) (pieces_left 32 rest.entry) }
 {
     let Some(octets) = rest else {
         return Some(LineFault {
@@ -132,7 +136,8 @@ pub fn line_fault(table: &Table<'_>, line: &[u8]) -> Option<LineFault>
     // What is told is the first word that is wrong.
     ensures found { IfSome result (λ found. IsFirstFault (table_view table.now) (words_of line.now) found) }
     // The first word that is wrong is told.
-    ensures only { (found : Found) → IsFirstFault (table_view table.now) (words_of line.now) found → IsSomeAnd result (λ told. told ≡ found) }
+    ensures only { (found : Found) → IsFirstFault (table_view table.now) (words_of line.now) found
+        → IsSomeAnd result (λ told. told ≡ found) }
     // Nothing is told exactly of a line that has a form.
     ensures none { IfNone result (IsGoodLine (table_view table.now) (words_of line.now)) }
     ensures good { IsGoodLine (table_view table.now) (words_of line.now) → IsNone result }

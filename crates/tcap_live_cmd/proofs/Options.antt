@@ -13,7 +13,7 @@ use Rattle.tcap_live_cmd.specs.declared.request.Request.{Request}
 -- the same values ask for the same
 pub asked-same : (first second : Text → Option Text) → ((name : Text) → first name ≡ second name) → asked_by first ≡ asked_by second
 asked-same first second same =
-    rw (same (codes "help"), same (codes "version"), same (codes "dialogues"), same (codes "reject"), same (codes "idle"), same (codes "first-dialogue"), same (codes "first-number")) refl
+    rw (same (codes "json"), same (codes "help"), same (codes "version"), same (codes "dialogues"), same (codes "reject"), same (codes "idle"), same (codes "first-dialogue"), same (codes "first-number")) refl
 
 -- what the matches of words ask for the words ask for
 pub asked-words : (words : List Text) (rows : List Row) (request : Option Request) (r : Result Request Refusal) → r ≡ ok_or request refusal.BadCommand

@@ -20,13 +20,13 @@ IsTold text old new good = Appends old new text × (good ≡ true)
 
 -- What was asked for was done: lines were answered up to the end of the input, or a text was written (own).
 abbrev pub IsAnswered : Asked → Option (List ℕ) → Option (List ℕ) → Option (List ℕ) → Option (List ℕ) → Bool → Type 0
-IsAnswered (Asked.run start) had left old new good = IsLived (nothing_at start) had left old new good
+IsAnswered (Asked.run format start) had left old new good = IsLived format (nothing_at start) had left old new good
 IsAnswered Asked.help had left old new good = IsTold help_text old new good
 IsAnswered Asked.version had left old new good = IsTold version_text old new good
 
 -- A write failed (own).
 abbrev pub IsUnwritten : Asked → Option (List ℕ) → Option (List ℕ) → Option (List ℕ) → Option (List ℕ) → Type 0
-IsUnwritten (Asked.run start) had left old new = IsCut (nothing_at start) had left old new
+IsUnwritten (Asked.run format start) had left old new = IsCut format (nothing_at start) had left old new
 IsUnwritten Asked.help had left old new = IsFront help_text old new
 IsUnwritten Asked.version had left old new = IsFront version_text old new
 
@@ -34,14 +34,14 @@ IsUnwritten Asked.version had left old new = IsFront version_text old new
 -- (own).
 abbrev pub IsUndone : Asked → Refusal → Option (List ℕ) → Option (List ℕ) → Option (List ℕ) → Option (List ℕ) → Type 0
 IsUndone asked BadCommand had left old new = ⊥
-IsUndone (Asked.run start) OutOfMemory had left old new = IsShort (nothing_at start) had left old new
+IsUndone (Asked.run format start) OutOfMemory had left old new = IsShort format (nothing_at start) had left old new
 IsUndone Asked.help OutOfMemory had left old new = ⊥
 IsUndone Asked.version OutOfMemory had left old new = ⊥
 IsUndone asked WriteFailed had left old new = IsUnwritten asked had left old new
-IsUndone (Asked.run start) ReadFailed had left old new = IsHalted (nothing_at start) had left old new
+IsUndone (Asked.run format start) ReadFailed had left old new = IsHalted format (nothing_at start) had left old new
 IsUndone Asked.help ReadFailed had left old new = ⊥
 IsUndone Asked.version ReadFailed had left old new = ⊥
-IsUndone (Asked.run start) LineTooLong had left old new = IsLong (nothing_at start) had left old new ⊎ IsEndless (nothing_at start) had left old new
+IsUndone (Asked.run format start) LineTooLong had left old new = IsLong format (nothing_at start) had left old new ⊎ IsEndless format (nothing_at start) had left old new
 IsUndone Asked.help LineTooLong had left old new = ⊥
 IsUndone Asked.version LineTooLong had left old new = ⊥
 

@@ -6,6 +6,8 @@ use Rattle.ber_core.specs.Options.{◌>>=◌}
 use Rattle.tcap_engine.specs.Limits.{AreLimits, most_dialogues}
 use Rattle.tcap_invocation.specs.Stage.{moment_limit}
 use Rattle.tcap_model.specs.Histories.History.{Start}
+use Rattle.tcap_living.specs.declared.format.Format.{Format}
+use Rattle.tcap_living.specs.declared.format.Format.TheVariants as shape
 use Rattle.tcap_play.specs.Numbers.{number_up_to}
 use Rattle.tcap_live_cmd.specs.declared.request.Request.{Request}
 use Rattle.tcap_live_cmd.specs.declared.request.Request.TheVariants as request
@@ -31,14 +33,18 @@ app_of_limits = with_rule (with_rule (with_rule bare_app (option_rule (codes "di
 abbrev pub app_of_counters : App
 app_of_counters = with_rule (with_rule app_of_limits (option_rule (codes "first-dialogue"))) (option_rule (codes "first-number"))
 
+-- And with the one that sets the format of the answers (own).
+abbrev pub app_of_format : App
+app_of_format = with_rule app_of_counters (flag_rule (codes "json"))
+
 -- The command `tcap_live` (own).
 abbrev pub live_app : App
-live_app = with_rule (with_rule app_of_counters (flag_rule (codes "help"))) (flag_rule (codes "version"))
+live_app = with_rule (with_rule app_of_format (flag_rule (codes "help"))) (flag_rule (codes "version"))
 
 -- What words ask for (own).
 pub data Asked : Type 0 where
-  -- an engine that starts so, by the lines on standard input
-  run : (start : Start) → Asked
+  -- an engine that starts so, by the lines on standard input, answered in this format
+  run : (format : Format) (start : Start) → Asked
   -- the text of `--help`
   help : Asked
   -- the text of `--version`
@@ -70,12 +76,16 @@ abbrev pub is_set : Option Text → Bool
 is_set None = false
 is_set (Some text) = bytes_eq text (codes "true")
 
+-- The format of the answers that options ask for (own).
+abbrev pub format_in : (Text → Option Text) → Format
+format_in text = if is_set (text (codes "json")) then shape.Json else shape.Words
+
 -- What options ask for: `--help` comes before `--version`, and both before a run (own).
 abbrev pub asked_by : (Text → Option Text) → Option Asked
 asked_by text =
     if is_set (text (codes "help")) then Some Asked.help
     else if is_set (text (codes "version")) then Some Asked.version
-    else option_map (λ start. Asked.run start) (start_in text)
+    else option_map (λ start. Asked.run (format_in text) start) (start_in text)
 
 -- What the matches of the words ask for (own).
 abbrev pub asked_in : List Row → Option Asked
@@ -105,19 +115,19 @@ start_of settings = record {
 
 -- What a request asks for (own).
 abbrev pub asked : Request → Asked
-asked (request.Run settings) = Asked.run (start_of settings)
+asked (request.Run format settings) = Asked.run format (start_of settings)
 asked request.Help = Asked.help
 asked request.Version = Asked.version
 
 -- The settings of a request are those that an engine may have (own).
 abbrev pub IsStarted : Request → Type 0
-IsStarted (request.Run settings) = AreLimits settings.limits
+IsStarted (request.Run format settings) = AreLimits settings.limits
 IsStarted request.Help = Unit {0}
 IsStarted request.Version = Unit {0}
 
 -- What is asked for reads standard input (own).
 abbrev pub Runs : Asked → Type 0
-Runs (Asked.run start) = Unit {0}
+Runs (Asked.run format start) = Unit {0}
 Runs Asked.help = ⊥
 Runs Asked.version = ⊥
 

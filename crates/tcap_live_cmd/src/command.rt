@@ -30,13 +30,21 @@ fn answer<A: Allocator + Copy, R: Read, W: Write>(
     ensures reader { ¬ (Runs (asked request)) → reader.new ≡ reader.old }
 {
     let text = match request {
-        Request::Run(settings) => {
+        Request::Run(format, settings) => {
             let Settings {
                 limits,
                 first_dialogue,
                 first_number,
             } = settings;
-            return Ok(run_live(heap, limits, first_dialogue, first_number, reader, out)?);
+            return Ok(run_live(
+                heap,
+                format,
+                limits,
+                first_dialogue,
+                first_number,
+                reader,
+                out,
+            )?);
         }
         Request::Help => help_text(),
         Request::Version => version_text(),

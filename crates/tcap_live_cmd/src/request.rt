@@ -1,6 +1,7 @@
 //! What the words of the command ask for.
 
 use tcap_engine::Limits;
+use tcap_living::Format;
 
 /// The limits of an engine, and where its counters start.
 #[derive(Clone, Copy, Debug, PartialEq, Eq)]
@@ -16,8 +17,8 @@ pub struct Settings {
 /// What the words of the command ask for.
 #[derive(Clone, Copy, Debug, PartialEq, Eq)]
 pub enum Request {
-    /// An engine with these settings, by the lines on standard input.
-    Run(Settings),
+    /// An engine with these settings, by the lines on standard input, answered in this format.
+    Run(Format, Settings),
     /// `--help`: the options and the lines.
     Help,
     /// `--version`: the name and the version.

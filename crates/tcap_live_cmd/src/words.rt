@@ -3,7 +3,7 @@
 ghost use Rattle.std.specs.Prelude.{◌≡◌, ◌⊎◌, ◌≤◌, map, option_map, false, IfOk, IfSome, MatchResult};
 ghost use Rattle.clap.specs.Words.{app_of, first_value, found_of, rows_of, rule_of};
 ghost use Rattle.tcap_engine.specs.Limits.{AreLimits};
-ghost use Rattle.tcap_live_cmd.specs.CommandLine.{Ask, AskNothing, IsStarted, asked, asked_by, asked_in, flag_rule, is_set, live_app, option_rule, start_in, start_of, value_of};
+ghost use Rattle.tcap_live_cmd.specs.CommandLine.{Ask, AskNothing, IsStarted, asked, asked_by, asked_in, bare_app, flag_rule, format_in, is_set, live_app, option_rule, start_in, start_of, value_of};
 
 use crate::refusal::Refusal;
 use crate::request::{Request, Settings};
@@ -11,6 +11,7 @@ use clap::error::ErrorKind;
 use clap::{Arg, ArgAction, ArgMatches, Command};
 use std::alloc::{AllocError, Global};
 use tcap_engine::Limits;
+use tcap_living::Format;
 use tcap_play::number;
 
 /// The most dialogues that may stand at once.
@@ -34,18 +35,26 @@ fn flag<'a>(alloc: Global, name: &'a str) -> Arg<'a>
     Arg::new(alloc, name).long(name).action(ArgAction::SetTrue)
 }
 
+/// The command `tcap_live` without its options.
+fn bare_command<'a>(alloc: Global) -> Command<'a>
+    ensures { app_of result ≡ bare_app }
+{
+    Command::new(alloc, "tcap_live")
+        .no_binary_name(true)
+        .disable_help_flag(true)
+}
+
 /// The command `tcap_live` with its options.
 fn live_command<'a>(alloc: Global) -> Result<Command<'a>, AllocError>
     ensures { IfOk result (λ c. app_of c ≡ live_app) }
 {
-    let live = Command::new(alloc, "tcap_live")
-        .no_binary_name(true)
-        .disable_help_flag(true);
+    let live = bare_command(alloc);
     live.arg(option(alloc, "dialogues"))?
         .arg(option(alloc, "reject"))?
         .arg(option(alloc, "idle"))?
         .arg(option(alloc, "first-dialogue"))?
         .arg(option(alloc, "first-number"))?
+        .arg(flag(alloc, "json"))?
         .arg(flag(alloc, "help"))?
         .arg(flag(alloc, "version"))
 }
@@ -99,6 +108,17 @@ fn is_set(matches: &ArgMatches<'_>, name: &str) -> bool
     }
 }
 
+/// The format of the answers that the options ask for.
+fn format_of(matches: &ArgMatches<'_>) -> Format
+    ensures { result ≡ format_in (first_value (found_of matches.now)) }
+{
+    if is_set(matches, "json") {
+        Format::Json
+    } else {
+        Format::Words
+    }
+}
+
 /// What the options that were found ask for, by their values.
 fn request_by(matches: &ArgMatches<'_>) -> Option<Request>
     ensures started { IfSome result (λ request. IsStarted request) }
@@ -110,7 +130,7 @@ fn request_by(matches: &ArgMatches<'_>) -> Option<Request>
     if is_set(matches, "version") {
         return Some(Request::Version);
     }
-    Some(Request::Run(settings_of(matches)?))
+    Some(Request::Run(format_of(matches), settings_of(matches)?))
 }
 
 /// What the options that were found ask for.
@@ -123,7 +143,8 @@ fn request_of(matches: &ArgMatches<'_>) -> Option<Request>
 
 /// What the words after the program's name ask for.
 pub(crate) fn read_words(alloc: Global, words: &[&str]) -> Result<Request, Refusal>
-    ensures { MatchResult result (λ request. IsStarted request × Ask (map (λ w. w.now) words.entry.now) (asked request))
+    ensures { MatchResult result
+        (λ request. IsStarted request × Ask (map (λ w. w.now) words.entry.now) (asked request))
         (λ refusal. (refusal ≡ Refusal.OutOfMemory) ⊎ ((refusal ≡ Refusal.BadCommand) × AskNothing (map (λ w. w.now) words.entry.now))) }
 {
     let Ok(command) = live_command(alloc) else {

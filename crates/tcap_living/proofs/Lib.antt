@@ -4,3 +4,5 @@ pub mod LineDeeds
 pub mod Takings
 pub mod Goings
 pub mod WordNumbers
+mod LineForms
+pub mod Appended

@@ -1,7 +1,11 @@
 pub mod Asking
+pub mod JsonText
 pub mod LineViews
 pub mod LiveLine
 pub mod LiveRun
 pub mod LiveTable
 pub mod LiveText
+pub mod OutputKinds
+pub mod Outputs
 pub mod Session
+pub mod WrongWords

@@ -23,12 +23,16 @@ use Rattle.tcap_lines.specs.FaultText.{line_fault_words}
 use Rattle.tcap_lines.specs.LineFaults.{or_empty}
 use Rattle.tcap_lines.specs.Reading.{first_fault}
 use Rattle.tcap_lines.specs.declared.fault.LineFault.{LineFault}
+use Rattle.tcap_living.specs.JsonText.{json_answer, json_last, json_state, json_timer, json_wrong}
 use Rattle.tcap_living.specs.LiveLine.{LiveLine, line_of}
 use Rattle.tcap_living.specs.LiveTable.{live_table}
+use Rattle.tcap_living.specs.Outputs.{outputs_in}
+use Rattle.tcap_living.specs.declared.format.Format.{Format}
+use Rattle.tcap_living.specs.declared.format.Format.TheVariants as shape
 
 -- ---- one line of an answer
 
--- A line of the answer to the line with this number (own).
+-- A line of words of the answer to the line with this number (own).
 abbrev pub numbered : ℕ → List ℕ → List ℕ
 numbered number words = decimal number ++ (codes " " ++ (words ++ codes "\n"))
 
@@ -56,16 +60,7 @@ last_words (Answer.given_up number) = codes "givenup " ++ decimal number
 last_words (Answer.outputs outputs) = codes "done"
 last_words (Answer.refused fault) = refused_words fault
 
--- The outputs of an answer (own).
-abbrev pub outputs_in : Answer → List Output
-outputs_in (Answer.new_dialogue dialogue) = []
-outputs_in (Answer.number number) = []
-outputs_in Answer.done = []
-outputs_in (Answer.given_up number) = []
-outputs_in (Answer.outputs outputs) = outputs
-outputs_in (Answer.refused fault) = []
-
--- The lines of an answer: its outputs one by one, and a last line that none of them is (own).
+-- The lines of an answer in words: its outputs one by one, and a last line that none of them is (own).
 abbrev pub answer_lines : ℕ → Answer → List ℕ
 answer_lines number answer = output_lines number (outputs_in answer) ++ numbered number (last_words answer)
 
@@ -83,14 +78,42 @@ state_words (Some state.Sent) = codes "state sent"
 state_words (Some state.Received) = codes "state received"
 state_words (Some state.Active) = codes "state active"
 
+-- What is wrong with the words of a line that has no form: which of them first, and what was expected there
+-- (own).
+abbrev pub wrong_words : Option LineFault → List ℕ
+wrong_words None = codes "bad"
+wrong_words (Some found) = codes "bad " ++ line_fault_words live_table found
+
+-- ---- in either format
+
+-- An answer (own).
+abbrev pub answer_text : Format → ℕ → Answer → List ℕ
+answer_text shape.Words number answer = answer_lines number answer
+answer_text shape.Json number answer = json_answer number answer
+
+-- The moment at which the next timer is due (own).
+abbrev pub timer_text : Format → ℕ → Option ℕ → List ℕ
+timer_text shape.Words number moment = numbered number (timer_words moment)
+timer_text shape.Json number moment = json_last number (json_timer moment)
+
+-- The state of a dialogue (own).
+abbrev pub state_text : Format → ℕ → Option State → List ℕ
+state_text shape.Words number found = numbered number (state_words found)
+state_text shape.Json number found = json_last number (json_state found)
+
+-- What is wrong with the words of a line that has no form (own).
+abbrev pub wrong_text : Format → ℕ → Option LineFault → List ℕ
+wrong_text shape.Words number found = numbered number (wrong_words found)
+wrong_text shape.Json number found = json_last number (json_wrong found)
+
 -- ---- what a line does
 
 -- The answer to what a line asks for after a history: to an event the reply, of the timer and of a state
 -- what the history says (own).
-abbrev pub asked_lines : ℕ → History → LiveLine → List ℕ
-asked_lines number h (LiveLine.call event) = answer_lines number (reply h event)
-asked_lines number h LiveLine.timer = numbered number (timer_words (next_timer_in (world_of h)))
-asked_lines number h (LiveLine.state dialogue) = numbered number (state_words (state_in_life (life dialogue h.pairs)))
+abbrev pub asked_lines : Format → ℕ → History → LiveLine → List ℕ
+asked_lines format number h (LiveLine.call event) = answer_text format number (reply h event)
+asked_lines format number h LiveLine.timer = timer_text format number (next_timer_in (world_of h))
+asked_lines format number h (LiveLine.state dialogue) = state_text format number (state_in_life (life dialogue h.pairs))
 
 -- The history after it: an event comes to it, and nothing else (own).
 abbrev pub asked_after : History → LiveLine → History
@@ -98,20 +121,14 @@ asked_after h (LiveLine.call event) = with_pair h event
 asked_after h LiveLine.timer = h
 asked_after h (LiveLine.state dialogue) = h
 
--- What is wrong with the words of a line that has no form: which of them first, and what was expected there
--- (own).
-abbrev pub wrong_words : Option LineFault → List ℕ
-wrong_words None = codes "bad"
-wrong_words (Some found) = codes "bad " ++ line_fault_words live_table found
-
 -- That a line of these words has no form (own).
-abbrev pub bad_line : ℕ → List (List ℕ) → List ℕ
-bad_line number words = numbered number (wrong_words (first_fault live_table words))
+abbrev pub bad_line : Format → ℕ → List (List ℕ) → List ℕ
+bad_line format number words = wrong_text format number (first_fault live_table words)
 
 -- What is printed for words by what they ask for, if they have the form of a line (own).
-abbrev pub lines_by : ℕ → History → List (List ℕ) → Option LiveLine → List ℕ
-lines_by number h words None = bad_line number words
-lines_by number h words (Some line) = asked_lines number h line
+abbrev pub lines_by : Format → ℕ → History → List (List ℕ) → Option LiveLine → List ℕ
+lines_by format number h words None = bad_line format number words
+lines_by format number h words (Some line) = asked_lines format number h line
 
 -- The history after it; a bad line leaves it as it was (own).
 abbrev pub after_by : History → Option LiveLine → History
@@ -119,8 +136,8 @@ after_by h None = h
 after_by h (Some line) = asked_after h line
 
 -- What is printed for the line of these octets, which has this number: nothing where it is skipped (own).
-abbrev pub line_text : ℕ → History → List ℕ → List ℕ
-line_text number h line = if is_skipped line then [] else lines_by number h (words_of line) (line_of (words_of line))
+abbrev pub line_text : Format → ℕ → History → List ℕ → List ℕ
+line_text format number h line = if is_skipped line then [] else lines_by format number h (words_of line) (line_of (words_of line))
 
 -- The history after it (own).
 abbrev pub line_after : History → List ℕ → History
@@ -134,9 +151,9 @@ is_good_line line = is_skipped line || is_some (line_of (words_of line))
 
 -- What is printed for lines, the first of which has this number: for each the answer to it after all lines
 -- before (own).
-unfoldable pub text_from : ℕ → History → List (List ℕ) → List ℕ
-text_from number h [] = []
-text_from number h (line ∷ lines) = line_text number h line ++ text_from (number + 1) (line_after h line) lines
+unfoldable pub text_from : Format → ℕ → History → List (List ℕ) → List ℕ
+text_from format number h [] = []
+text_from format number h (line ∷ lines) = line_text format number h line ++ text_from format (number + 1) (line_after h line) lines
 
 -- The history after lines (own).
 unfoldable pub history_from : History → List (List ℕ) → History
@@ -148,8 +165,8 @@ abbrev pub are_good : List (List ℕ) → Bool
 are_good lines = list_all is_good_line lines
 
 -- What is printed for octets, by an engine that begins with this history (own).
-abbrev pub live_text_of : History → List ℕ → List ℕ
-live_text_of start octets = text_from 1 start (lines_of octets)
+abbrev pub live_text_of : Format → History → List ℕ → List ℕ
+live_text_of format start octets = text_from format 1 start (lines_of octets)
 
 -- Whether no line of them is bad (own).
 abbrev pub live_is_good : List ℕ → Bool

@@ -9,6 +9,7 @@ use Rattle.tcap_text.specs.declared.fault.PlayFault.{PlayFault}
 use Rattle.tcap_text.specs.declared.fault.PlayFault.TheVariants as fault
 use Rattle.tcap_living.specs.LiveText.{are_good, history_from, line_text, text_from}
 use Rattle.tcap_living.specs.declared.session.Session.{Session}
+use Rattle.tcap_living.specs.declared.format.Format.{Format}
 
 -- A session that began with a history has answered these lines (own).
 pub record HasAnswered {A : Type 0} (start : History) (lines : List (List ℕ)) (session : Session A) : Type 0 where
@@ -32,9 +33,9 @@ IsUnanswered line text old new fault.Write = IsFrontOf text old new
 IsUnanswered line text old new fault.TooLong = ⊥
 
 -- The line that is held was answered, and the next is empty so far (own).
-pub record AnswersHeld {A : Type 0} (start : History) (lines : List (List ℕ)) (old new : Session A) (before after : Option (List ℕ)) : Type 0 where
+pub record AnswersHeld {A : Type 0} (format : Format) (start : History) (lines : List (List ℕ)) (old new : Session A) (before after : Option (List ℕ)) : Type 0 where
   pub answered : HasAnswered start (lines ++ (old.line.items ∷ [])) new
-  pub prints : Appends before after (line_text (1 + length lines) (history_from start lines) old.line.items)
+  pub prints : Appends before after (line_text format (1 + length lines) (history_from start lines) old.line.items)
   pub is_held : new.line.items ≡ []
 
 -- Octets are held behind those of the line so far (own).
@@ -58,25 +59,25 @@ continued held (part ∷ more) = (held ++ part) ∷ more
 
 -- More octets were taken: the lines that end in them were answered, and what follows the last of these is
 -- held (own).
-pub record IsTaken {A : Type 0} (start : History) (answered : List (List ℕ)) (piece : List ℕ) (old new : Session A) (before after : Option (List ℕ)) : Type 0 where
+pub record IsTaken {A : Type 0} (format : Format) (start : History) (answered : List (List ℕ)) (piece : List ℕ) (old new : Session A) (before after : Option (List ℕ)) : Type 0 where
   pub told : List (List ℕ)
   pub are_lines : continued old.line.items (pieces 10 piece) ≡ told ++ (new.line.items ∷ [])
   pub has_answered : HasAnswered start (answered ++ told) new
-  pub prints : Appends before after (text_from (1 + length answered) (history_from start answered) told)
+  pub prints : Appends before after (text_from format (1 + length answered) (history_from start answered) told)
 
 -- What was written of the answer to a line that was not answered whole, and why (own).
-abbrev pub IsStopped : History → ℕ → List ℕ → Option (List ℕ) → Option (List ℕ) → PlayFault → Type 0
-IsStopped h number line old new fault.OutOfMemory = Appends old new [] × (0 < length line)
-IsStopped h number line old new fault.Read = ⊥
-IsStopped h number line old new fault.Write = IsFrontOf (line_text number h line) old new
-IsStopped h number line old new fault.TooLong = Appends old new [] × (longest_script < length line)
+abbrev pub IsStopped : Format → History → ℕ → List ℕ → Option (List ℕ) → Option (List ℕ) → PlayFault → Type 0
+IsStopped format h number line old new fault.OutOfMemory = Appends old new [] × (0 < length line)
+IsStopped format h number line old new fault.Read = ⊥
+IsStopped format h number line old new fault.Write = IsFrontOf (line_text format number h line) old new
+IsStopped format h number line old new fault.TooLong = Appends old new [] × (longest_script < length line)
 
 -- More octets were not taken whole: the lines before this one were answered (own).
-pub record IsUntaken (start : History) (answered : List (List ℕ)) (held piece : List ℕ) (before after : Option (List ℕ)) (fault : PlayFault) : Type 0 where
+pub record IsUntaken (format : Format) (start : History) (answered : List (List ℕ)) (held piece : List ℕ) (before after : Option (List ℕ)) (fault : PlayFault) : Type 0 where
   pub told : List (List ℕ)
   pub line : List ℕ
   pub later : List (List ℕ)
   pub are_lines : continued held (pieces 10 piece) ≡ told ++ (line ∷ later)
   pub mid : Option (List ℕ)
-  pub prints : Appends before mid (text_from (1 + length answered) (history_from start answered) told)
-  pub stopped : IsStopped (history_from start (answered ++ told)) (1 + length (answered ++ told)) line mid after fault
+  pub prints : Appends before mid (text_from format (1 + length answered) (history_from start answered) told)
+  pub stopped : IsStopped format (history_from start (answered ++ told)) (1 + length (answered ++ told)) line mid after fault

@@ -1,4 +1,4 @@
-//! The lines of an answer.
+//! The lines of an answer, in words.
 
 ghost use Rattle.std.specs.Prelude.{◌≡◌, ◌++◌, codes, OnOk, string_bytes};
 ghost use Rattle.std.specs.Fmt.{decimal};
@@ -6,7 +6,9 @@ ghost use Rattle.tcap_engine.specs.EventViews.{answer_view};
 ghost use Rattle.tcap_primitives.specs.FaultViews.{fault_view};
 ghost use Rattle.tcap_primitives.specs.OutputViews.{all_shown};
 ghost use Rattle.tcap_play.specs.Pieces.{words_of};
-ghost use Rattle.tcap_living.specs.LiveText.{answer_lines, bad_line, numbered, output_lines, refused_words, state_words, timer_words};
+ghost use Rattle.tcap_lines.specs.Reading.{first_fault};
+ghost use Rattle.tcap_living.specs.LiveTable.{live_table};
+ghost use Rattle.tcap_living.specs.LiveText.{answer_lines, numbered, output_lines, refused_words, state_words, timer_words, wrong_words};
 
 use crate::output_text::add_output;
 use crate::table::live_table;
@@ -18,7 +20,7 @@ use tcap_lines::{add_line_fault, fault_name, line_fault};
 use tcap_text::add_decimal;
 
 /// Adds a line of the answer to the line with this number.
-pub(crate) fn add_numbered<A: Allocator + Copy>(
+fn add_numbered<A: Allocator + Copy>(
     text: &mut String<A>,
     number: u64,
     words: &str,
@@ -39,7 +41,8 @@ fn add_made<A: Allocator + Copy>(
     name: &str,
     made: u64,
 ) -> Result<(), OutOfMemory>
-    ensures { OnOk result (string_bytes text.new ≡ string_bytes text.old ++ numbered number (name.now ++ decimal made)) }
+    ensures { OnOk result (string_bytes text.new ≡ string_bytes text.old
+        ++ numbered number (name.now ++ decimal made)) }
 {
     add_decimal(text, number)?;
     text.push_str(" ")?;
@@ -71,12 +74,13 @@ fn add_refused<A: Allocator + Copy>(
 }
 
 /// Adds that a line has no form: which of its words is wrong first, and what was expected there.
-pub(crate) fn add_bad<A: Allocator + Copy>(
+pub(crate) fn add_bad_words<A: Allocator + Copy>(
     text: &mut String<A>,
     number: u64,
     line: &[u8],
 ) -> Result<(), OutOfMemory>
-    ensures { OnOk result (string_bytes text.new ≡ string_bytes text.old ++ bad_line number (words_of line.now)) }
+    ensures { OnOk result (string_bytes text.new ≡ string_bytes text.old
+        ++ numbered number (wrong_words (first_fault live_table (words_of line.now)))) }
 {
     add_decimal(text, number)?;
     text.push_str(" bad")?;
@@ -106,7 +110,7 @@ fn add_outputs<A: Allocator + Copy>(
 
 /// Adds the lines of an answer to the line with this number: its outputs one by one, and a last line that
 /// none of them is.
-pub(crate) fn add_answer<A: Allocator + Copy>(
+pub(crate) fn add_answer_words<A: Allocator + Copy>(
     text: &mut String<A>,
     number: u64,
     answer: &Answer<'_, A>,
@@ -128,7 +132,7 @@ pub(crate) fn add_answer<A: Allocator + Copy>(
 }
 
 /// Adds the moment at which the next timer is due, `-` where none is.
-pub(crate) fn add_timer<A: Allocator + Copy>(
+pub(crate) fn add_timer_words<A: Allocator + Copy>(
     text: &mut String<A>,
     number: u64,
     timer: Option<u64>,
@@ -142,7 +146,7 @@ pub(crate) fn add_timer<A: Allocator + Copy>(
 }
 
 /// The words of a dialogue's state, `-` where none stands.
-pub(crate) fn state_text(state: Option<State>) -> &'static str
+fn state_text(state: Option<State>) -> &'static str
     ensures { result.now ≡ state_words state }
 {
     match state {
@@ -152,4 +156,15 @@ pub(crate) fn state_text(state: Option<State>) -> &'static str
         Some(State::Active) => "state active",
         None => "state -",
     }
+}
+
+/// Adds the state of a dialogue, `-` where none stands.
+pub(crate) fn add_state_words<A: Allocator + Copy>(
+    text: &mut String<A>,
+    number: u64,
+    state: Option<State>,
+) -> Result<(), OutOfMemory>
+    ensures { OnOk result (string_bytes text.new ≡ string_bytes text.old ++ numbered number (state_words state)) }
+{
+    add_numbered(text, number, state_text(state))
 }

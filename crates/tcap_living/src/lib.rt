@@ -7,8 +7,14 @@
 #![tactic(auto)]
 
 mod answer_text;
+mod answers;
 mod by_words;
 mod context;
+mod format;
+mod json_output;
+mod json_text;
+mod json_values;
+pub mod laws;
 mod line;
 mod output_text;
 mod requests;
@@ -16,6 +22,7 @@ mod run;
 mod session;
 mod table;
 
+pub use format::Format;
 pub use run::run_live;
 pub use tcap_engine::Limits;
 pub use tcap_text::PlayFault;

@@ -9,8 +9,9 @@ ghost use Rattle.tcap_living.specs.LiveText.{history_from, line_text};
 ghost use Rattle.tcap_text.specs.declared.fault.PlayFault.TheVariants as fault;
 ghost use Rattle.tcap_living.specs.Session.{AnswersHeld, HasAnswered, Holds, IsTaken, IsUnanswered, IsUnheld, IsUntaken, IsFrontOf};
 
-use crate::answer_text::add_bad;
+use crate::answers::add_bad;
 use crate::by_words::act_on;
+use crate::format::Format;
 use ber_core::OutOfMemory;
 use std::alloc::{Allocator, Global};
 use std::io::Write;
@@ -39,11 +40,12 @@ pub(crate) struct Session<A: Allocator + Copy = Global> {
 fn answer_line<A: Allocator + Copy>(
     alloc: A,
     engine: &mut Engine<A>,
+    format: Format,
     number: u64,
     line: &[u8],
     text: &mut String<A>,
 ) -> Result<bool, OutOfMemory>
-    ensures answered { IfOk result (λ good. AnswersAt number line.now good engine.old engine.new
+    ensures answered { IfOk result (λ good. AnswersAt format number line.now good engine.old engine.new
         (string_bytes text.old) (string_bytes text.new)) }
     // No memory is wanted for an empty line.
     ensures wanted { OnErr result (0 < length line.now) }
@@ -53,10 +55,10 @@ fn answer_line<A: Allocator + Copy>(
     }
     let mut words = Vec::new(alloc);
     cut_words(&mut words, line)?;
-    if act_on(alloc, engine, number, &words, text)? {
+    if act_on(alloc, engine, format, number, &words, text)? {
         return Ok(true);
     }
-    add_bad(text, number, line)?;
+    add_bad(text, format, number, line)?;
     Ok(false)
 }
 
@@ -112,16 +114,29 @@ impl<A: Allocator + Copy> Session<A> {
     }
 
     /// Answers the line that is held, and holds an empty one in its place.
-    pub(crate) fn answer<W: Write>(&mut self, alloc: A, writer: &mut W) -> Result<(), PlayFault>
+    pub(crate) fn answer<W: Write>(
+        &mut self,
+        alloc: A,
+        format: Format,
+        writer: &mut W,
+    ) -> Result<(), PlayFault>
         requires { self.now.number + 1 ≤ 18446744073709551615 }
         ensures number { OnOk result (self.new.number ≡ self.old.number + 1) }
-        ensures answered { (start : History) (lines : List (List ℕ)) → HasAnswered start lines self.old → MatchResult result
-            (λ _. AnswersHeld start lines self.old self.new (W.contents writer.old) (W.contents writer.new))
-            (λ fault. IsUnanswered self.old.line.items (line_text (1 + length lines) (history_from start lines) self.old.line.items)
+        ensures answered { (start : History) (lines : List (List ℕ)) → HasAnswered start lines self.old
+            → MatchResult result
+            (λ _. AnswersHeld format start lines self.old self.new (W.contents writer.old) (W.contents writer.new))
+            (λ fault. IsUnanswered self.old.line.items (line_text format (1 + length lines) (history_from start lines) self.old.line.items)
             (W.contents writer.old) (W.contents writer.new) fault) }
     {
         let mut text = String::new(alloc);
-        let good = answer_line(alloc, &mut self.engine, self.number, &self.line, &mut text)?;
+        let good = answer_line(
+            alloc,
+            &mut self.engine,
+            format,
+            self.number,
+            &self.line,
+            &mut text,
+        )?;
         write_answer(writer, text.as_bytes())?;
         self.good &= good;
         self.number += 1;
@@ -134,19 +149,21 @@ impl<A: Allocator + Copy> Session<A> {
     pub(crate) fn take<W: Write>(
         &mut self,
         alloc: A,
+        format: Format,
         piece: &[u8],
         writer: &mut W,
     ) -> Result<(), PlayFault>
         requires { self.now.number + length piece.now ≤ 18446744073709551615 }
-        ensures { (start : History) (answered : List (List ℕ)) → HasAnswered start answered self.old → MatchResult result
-            (λ _. IsTaken start answered piece.now self.old self.new (W.contents writer.old) (W.contents writer.new))
-            (λ fault. IsUntaken start answered self.old.line.items piece.now (W.contents writer.old) (W.contents writer.new) fault) }
+        ensures { (start : History) (answered : List (List ℕ)) → HasAnswered start answered self.old
+            → MatchResult result
+            (λ _. IsTaken format start answered piece.now self.old self.new (W.contents writer.old) (W.contents writer.new))
+            (λ fault. IsUntaken format start answered self.old.line.items piece.now (W.contents writer.old) (W.contents writer.new) fault) }
     {
         let (part, more) = first_piece(piece, b'\n');
         self.hold(part)?;
         let mut rest = more;
         while let Some(octets) = rest {
-            self.answer(alloc, writer)?;
+            self.answer(alloc, format, writer)?;
             let (part, more) = first_piece(octets, b'\n');
             self.hold(part)?;
             rest = more;

@@ -5,7 +5,7 @@ use std::alloc::Global;
 use std::io;
 use std::io::{ErrorKind, Read, Write};
 use std::test::Fail;
-use tcap_living::{PlayFault, run_live};
+use tcap_living::{Format, PlayFault, run_live};
 
 /// A reader of so many octets a read, which may fail on the way.
 #[derive(Drop)]
@@ -94,7 +94,7 @@ fn ran(
         failing: writes,
         calls: 0,
     };
-    let came = run_live(alloc, LIMITS, 1, 1, &mut reader, &mut out);
+    let came = run_live(alloc, Format::Words, LIMITS, 1, 1, &mut reader, &mut out);
     (came, out)
 }
 

@@ -3,7 +3,7 @@
 use super::lines::{LIMITS, ROWS};
 use refusing::Refusing;
 use std::test::Fail;
-use tcap_living::{PlayFault, run_live};
+use tcap_living::{Format, PlayFault, run_live};
 
 #[test]
 fn growths_refused_in_turn(rt: HostRuntime) -> Result<(), Fail> {
@@ -14,7 +14,7 @@ fn growths_refused_in_turn(rt: HostRuntime) -> Result<(), Fail> {
             let mut reader = lines.as_bytes();
             let mut out = Vec::new(rt.alloc());
             heap.refuse(number);
-            let came = run_live(&heap, LIMITS, 1, 1, &mut reader, &mut out);
+            let came = run_live(&heap, Format::Words, LIMITS, 1, 1, &mut reader, &mut out);
             if heap.is_armed() {
                 assert_eq!(rt; out.as_slice(), wanted.as_bytes());
                 break;

@@ -2,7 +2,7 @@
 
 use std::alloc::Allocator;
 use std::test::Fail;
-use tcap_living::{Limits, PlayFault, run_live};
+use tcap_living::{Format, Limits, PlayFault, run_live};
 
 /// The limits of a play.
 pub(super) const LIMITS: Limits = Limits {
@@ -51,7 +51,7 @@ pub(super) const ROWS: &[(&str, &str)] = &[
 pub(super) fn prints<A: Allocator + Copy>(alloc: A, lines: &str, wanted: &str, good: bool) -> bool {
     let mut reader = lines.as_bytes();
     let mut out = Vec::new(alloc);
-    let ran = run_live(alloc, LIMITS, 1, 1, &mut reader, &mut out);
+    let ran = run_live(alloc, Format::Words, LIMITS, 1, 1, &mut reader, &mut out);
     ran == Ok(good) && out.as_slice() == wanted.as_bytes()
 }
 
@@ -75,7 +75,7 @@ fn limits_and_counters(rt: HostRuntime) -> Result<(), Fail> {
     let mut reader =
         b"new\nnew\ninvoke 9 1 1 1 50 - -\nbegin 9 42 - -\ntimer\nadvance 7".as_slice();
     let mut out = Vec::new(alloc);
-    let ran = run_live(alloc, limits, 9, 70, &mut reader, &mut out);
+    let ran = run_live(alloc, Format::Words, limits, 9, 70, &mut reader, &mut out);
     let wanted =
         "1 new 9\n2 refused 8 dialogues full\n3 number 70\n4 send 42 62104804000000096c08a106020101020101\n4 done\n5 timer 7\n6 pabort 9 idle\n6 ended 9 id 1 number 70\n6 done\n";
     assert!(rt; ran == Ok(true) && out.as_slice() == wanted.as_bytes());
@@ -91,7 +91,7 @@ fn a_line_that_is_too_long(rt: HostRuntime) -> Result<(), Fail> {
         let mut reader = lines.as_slice();
         let mut out = Vec::new(alloc);
         assert_eq!(rt;
-            run_live(alloc, LIMITS, 1, 1, &mut reader, &mut out),
+            run_live(alloc, Format::Words, LIMITS, 1, 1, &mut reader, &mut out),
             wanted
         );
         let told = if more == 0 { "2 timer -\n" } else { "" };

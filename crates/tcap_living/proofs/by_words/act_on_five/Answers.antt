@@ -7,5 +7,5 @@ use Rattle.tcap_living.proofs.by_words.act_on_five.Goals as goal
 pub returns : goal.returns
 returns g c =
     let w = word_at c.args.words.now in
-    does_as c.act_if.result _ _ _ _ _ (string_bytes c.args.text.now) (string_bytes c.act_if.new.text)
+    does_as c.args.format c.act_if.result _ _ _ _ _ (string_bytes c.args.text.now) (string_bytes c.act_if.new.text)
     (c.line_of_five-line.ensures ∙ (ap (λ word. line_of_five (w 0) (w 1) (w 2) word c.in_ok-last.last.text.now) c.in_ok-fourth.ensures ∙ (ap (line_of_five (w 0) (w 1) (w 2) (w 3)) c.in_ok-last.ensures ∙ sym (five_words c.args.words.now c.requires)))) c.act_if.ensures

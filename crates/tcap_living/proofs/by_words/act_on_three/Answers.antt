@@ -7,5 +7,5 @@ use Rattle.tcap_living.proofs.by_words.act_on_three.Goals as goal
 pub returns : goal.returns
 returns g c =
     let w = word_at c.args.words.now in
-    does_as c.act_if.result _ _ _ _ _ (string_bytes c.args.text.now) (string_bytes c.act_if.new.text)
+    does_as c.args.format c.act_if.result _ _ _ _ _ (string_bytes c.args.text.now) (string_bytes c.act_if.new.text)
     (c.line_of_three-line.ensures ∙ (ap (line_of_three (w 0) (w 1)) c.in_ok-last.ensures ∙ sym (three_words c.args.words.now c.requires))) c.act_if.ensures

@@ -5,5 +5,5 @@ use Rattle.tcap_living.proofs.by_words.act_on_two.Goals as goal
 
 pub returns : goal.returns
 returns g c =
-    does_as c.act_if.result _ _ _ _ _ (string_bytes c.args.text.now) (string_bytes c.act_if.new.text)
+    does_as c.args.format c.act_if.result _ _ _ _ _ (string_bytes c.args.text.now) (string_bytes c.act_if.new.text)
     (c.line_of_two-line.ensures ∙ sym (two_words c.args.words.now c.requires)) c.act_if.ensures

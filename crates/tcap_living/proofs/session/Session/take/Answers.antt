@@ -25,8 +25,8 @@ returns-in_err-hold-2 g c start answered has =
     let cut = first-left 10 c.in-Some.octets.now c.first_piece-in-Some.result.0.now more c.first_piece-in-Some.ensures.cut in
     let before = g.W.Write.contents c.args.writer.now in
     let mid = g.W.Write.contents c.loop-rest.writer in
-    let taking : IsTaking start answered c.args.self.now.line.items c.args.piece.now (Some c.in-Some.octets) c.loop-rest.self before mid =
-    subst (λ rest. IsTaking start answered c.args.self.now.line.items c.args.piece.now rest c.loop-rest.self before mid) c.in-Some.is (c.loop-rest.invariant.0 start answered has) in
+    let taking : IsTaking c.args.format start answered c.args.self.now.line.items c.args.piece.now (Some c.in-Some.octets) c.loop-rest.self before mid =
+    subst (λ rest. IsTaking c.args.format start answered c.args.self.now.line.items c.args.piece.now rest c.loop-rest.self before mid) c.in-Some.is (c.loop-rest.invariant.0 start answered has) in
     rw (p.1, p.2) (not_held start answered c.args.self.now c.args.piece.now before c.in-Some.octets c.loop-rest.self mid taking c.answer.new.self _ (c.in_ok-answer.ensures.answered start (answered ++ taking.told) taking.has_answered) c.first_piece-in-Some.result.0.now more cut _ c.in_err-hold-2.ensures)
 
 pub loop-rest-preserved : goal.loop-rest-preserved
@@ -38,8 +38,8 @@ loop-rest-preserved g c =
     let room : c.loop-rest.self.number + left (Some c.in-Some.octets) ≤ 18446744073709551615 =
     subst (λ rest. c.loop-rest.self.number + left rest ≤ 18446744073709551615) c.in-Some.is c.loop-rest.invariant.1 in (
       λ start answered has.
-          let taking : IsTaking start answered c.args.self.now.line.items c.args.piece.now (Some c.in-Some.octets) c.loop-rest.self before mid =
-          subst (λ rest. IsTaking start answered c.args.self.now.line.items c.args.piece.now rest c.loop-rest.self before mid) c.in-Some.is (c.loop-rest.invariant.0 start answered has) in
+          let taking : IsTaking c.args.format start answered c.args.self.now.line.items c.args.piece.now (Some c.in-Some.octets) c.loop-rest.self before mid =
+          subst (λ rest. IsTaking c.args.format start answered c.args.self.now.line.items c.args.piece.now rest c.loop-rest.self before mid) c.in-Some.is (c.loop-rest.invariant.0 start answered has) in
           goes_on start answered c.args.self.now c.args.piece.now before c.in-Some.octets c.loop-rest.self mid taking c.answer.new.self _ (c.in_ok-answer.ensures.answered start (answered ++ taking.told) taking.has_answered) c.first_piece-in-Some.result.0.now more cut c.hold-in-Some.new.self c.in_ok-hold-2.ensures,
       omega (arith, room, c.in_ok-answer.ensures.number, c.in_ok-hold-2.ensures.is_number, few-left more (length c.in-Some.octets.now) c.first_piece-in-Some.ensures.shorter),
     )

@@ -9,7 +9,7 @@ use Rattle.tcap_living.proofs.session.Session.take.Given as goal
 abbrev pub invariant-loop-rest : goal.invariant-loop-rest
 invariant-loop-rest g l =
     ((start : History) (answered : List (List ℕ)) → HasAnswered start answered l.fn.self
-    → IsTaking start answered l.fn.self.line.items l.piece l.rest l.self (g.W.Write.contents l.fn.writer) (g.W.Write.contents l.writer))
+    → IsTaking l.format start answered l.fn.self.line.items l.piece l.rest l.self (g.W.Write.contents l.fn.writer) (g.W.Write.contents l.writer))
     × (l.self.number + left l.rest ≤ 18446744073709551615)
 
 abbrev pub decreases-loop-rest : goal.decreases-loop-rest
