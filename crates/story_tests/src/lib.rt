@@ -1,6 +1,6 @@
-//! The tests of `tcap_lines` and `tcap_stories`: what is told of lines and of stories.
+//! The tests of `tcap_lines`, `tcap_stories` and `tcap_story_cmd`: what is told of lines and of stories.
 //!
-//! Stands on both. It has no function but the tests.
+//! Stands on all three. It has no function but the tests.
 #![tactic(auto)]
 
 #[cfg(test)]

@@ -4,3 +4,4 @@ mod expectations;
 mod lines;
 mod mistakes;
 mod refusals;
+mod runs;

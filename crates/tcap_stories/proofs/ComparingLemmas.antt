@@ -1,9 +1,10 @@
 -- Outputs beside what is expected of them.
-use Rattle.std.proofs.Common.{◌≡◌, ◌+◌, ◌<◌, ◌≤◌, ◌&&◌, ℕ, zero, suc, Bool, true, false, List, [], ◌∷◌, drop, length, Option, Some, None, slice_get, slice_index_or, refl, sym, ap, ◌∙◌, arith}
+use Rattle.std.proofs.Common.{◌≡◌, ◌+◌, ◌<◌, ◌≤◌, ◌&&◌, ◌||◌, cond, filter, if◌then◌else◌, ℕ, zero, suc, Bool, true, false, List, [], ◌∷◌, drop, length, Option, Some, None, slice_get, slice_index_or, refl, sym, ap, ◌∙◌, arith}
 use Rattle.std.proofs.lemmas.List.{drop_all}
 use Rattle.std.specs.declared.vec.Vec.{Vec}
-use Rattle.tcap_stories.specs.Comparing.{Expectation, and_then, held, side_by_side}
-use Rattle.tcap_stories.specs.Views.{Adds, so_far, still_told, texts_of}
+use Rattle.tcap_stories.specs.Comparing.{Expectation, and_then, held, side_by_side, silent}
+use Rattle.tcap_stories.specs.Outputs.{is_refusal}
+use Rattle.tcap_stories.specs.Views.{Adds, left_over, so_far, still_told, texts_of}
 use Rattle.tcap_stories.proofs.PrintedLemmas.{added, and_assoc}
 
 drop_none : (n : ℕ) → drop {A = List ℕ} n [] ≡ []
@@ -68,12 +69,25 @@ module _ {A : Type 0} where
   as_many [] = refl
   as_many (output ∷ outputs) = ap suc (as_many outputs)
 
--- one output more was told, of which nothing is expected
-pub one_more : (text after : List ℕ) (good now : Bool) (number : ℕ) (outputs : List (List ℕ)) (place : ℕ) (output : List ℕ) → slice_get outputs place ≡ some_text output
-    → Adds (held number None (some_text output)) now text after
-    → and_then (so_far text good) (side_by_side number (drop place outputs) []) ≡ and_then (so_far after (good && now)) (side_by_side number (drop (place + 1) outputs) [])
-one_more text after good now number outputs place output is adds =
-    let told = held number None (some_text output) in
-    let rest = side_by_side number (drop (place + 1) outputs) [] in
-    ap (λ o. and_then (so_far text good) (side_by_side number o [])) (from_place outputs place output is)
-    ∙ (sym (and_assoc (so_far text good) told rest) ∙ ap (λ t. and_then t rest) (added told text after good now adds))
+-- the first of the outputs that are left, which nothing names, and those behind it
+left_first : (expected : Bool) (number : ℕ) (output : List ℕ) (outputs : List (List ℕ))
+    → still_told expected number (output ∷ outputs) [] ≡ and_then (left_over expected number output) (still_told expected number outputs [])
+left_first true number output outputs = refl
+left_first false number output outputs = by_test (is_refusal output) where
+  rest : List (List ℕ)
+  rest = filter is_refusal outputs
+
+  by_test : (b : Bool) → side_by_side number (cond b (output ∷ rest) rest) [] ≡ and_then (if false || b then held number None (Some output) else silent) (side_by_side number rest [])
+  by_test true = refl
+  by_test false = refl
+
+-- one output more was told, which nothing names
+pub one_more : (text after : List ℕ) (good now expected : Bool) (number : ℕ) (outputs : List (List ℕ)) (place : ℕ) (output : List ℕ) → slice_get outputs place ≡ some_text output
+    → Adds (left_over expected number output) now text after
+    → and_then (so_far text good) (still_told expected number (drop place outputs) []) ≡ and_then (so_far after (good && now)) (still_told expected number (drop (place + 1) outputs) [])
+one_more text after good now expected number outputs place output is adds =
+    let told = left_over expected number output in
+    let rest = still_told expected number (drop (place + 1) outputs) [] in
+    ap (λ o. and_then (so_far text good) (still_told expected number o [])) (from_place outputs place output is)
+    ∙ (ap (λ t. and_then (so_far text good) t) (left_first expected number output (drop (place + 1) outputs))
+    ∙ (sym (and_assoc (so_far text good) told rest) ∙ ap (λ t. and_then t rest) (added told text after good now adds)))

@@ -1,5 +1,9 @@
+mod AloneForms
 mod ComparingLemmas
 mod PartLemmas
 mod PieceLemmas
 mod PrintedLemmas
+mod SideForms
+mod StoryForms
 mod StoryLemmas
+mod StorySteps

@@ -1,7 +1,9 @@
 -- What is told of a bad line.
-use Rattle.std.specs.Prelude.{ℕ, List, [], ◌∷◌, ◌++◌, codes, bytes_eq, Option, Some, None, if◌then◌else◌}
+use Rattle.std.specs.Prelude.{◌≡◌, ℕ, List, [], ◌∷◌, ◌++◌, codes, bytes_eq, Option, Some, None, if◌then◌else◌}
 use Rattle.std.specs.Fmt.{decimal}
 use Rattle.tcap_play.specs.Pieces.{words_of}
+use Rattle.tcap_play.specs.Play.{Fate, Played, carried, message_in, sent_by}
+use Rattle.tcap_play.specs.ScriptWords.{MessageName, idle_limit_of, name_of}
 use Rattle.tcap_lines.specs.FaultText.{line_fault_words}
 use Rattle.tcap_lines.specs.Reading.{first_fault}
 use Rattle.tcap_lines.specs.declared.fault.LineFault.{LineFault}
@@ -16,6 +18,21 @@ unfit_words name =
     else if bytes_eq name (codes "lose") then codes "word 2, a message that was neither received nor lost"
     else if bytes_eq name (codes "idle") then codes "word 1, idle in the first line alone"
     else codes "word 2 is missing, the text of an output or nothing"
+
+-- The lines of these words are bad at a play, though each word is what it has to be: those that name a message that can't
+-- be so treated, an idle limit behind the first line, and an expectation that says nothing (own).
+pub data IsUnfit : Played → List (List ℕ) → Type 0 where
+  -- a message that doesn't wait, or goes elsewhere than to the other side, or was never sent
+  undelivered : (p : Played) (word : List ℕ) (name : MessageName) → name_of word ≡ Some name
+      → carried name Fate.waiting p ≡ None → IsUnfit p (codes "deliver" ∷ word ∷ [])
+  -- one that was not received
+  unrepeated : (p : Played) (word : List ℕ) (name : MessageName) → name_of word ≡ Some name
+      → carried name Fate.delivered p ≡ None → IsUnfit p (codes "again" ∷ word ∷ [])
+  -- one that doesn't wait
+  unlost : (p : Played) (word : List ℕ) (name : MessageName) → name_of word ≡ Some name
+      → message_in Fate.waiting name.number (sent_by name.engine p) ≡ None → IsUnfit p (codes "lose" ∷ word ∷ [])
+  late : (p : Played) (word : List ℕ) (limit : ℕ) → idle_limit_of word ≡ Some limit → IsUnfit p (codes "idle" ∷ word ∷ [])
+  unsaid : (p : Played) → IsUnfit p (codes "expect" ∷ [])
 
 -- The first of some words (own).
 abbrev pub first_of : List (List ℕ) → List ℕ

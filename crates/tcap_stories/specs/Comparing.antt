@@ -1,7 +1,8 @@
 -- The outputs of a line beside what is expected of it.
-use Rattle.std.specs.Prelude.{ℕ, Bool, true, false, ◌&&◌, List, [], ◌∷◌, ◌++◌, codes, bytes_eq, Option, Some, None, if◌then◌else◌}
+use Rattle.std.specs.Prelude.{ℕ, Bool, true, false, ◌&&◌, List, [], ◌∷◌, ◌++◌, codes, bytes_eq, filter, Option, Some, None, if◌then◌else◌}
 use Rattle.std.specs.Fmt.{decimal}
 use Rattle.tcap_play.specs.Play.{Printed}
+use Rattle.tcap_stories.specs.Outputs.{is_refusal}
 
 -- What is expected, an output or that there is none, and the number of the line that says so (own).
 pub record Expectation : Type 0 where
@@ -55,7 +56,8 @@ side_by_side number [] (e ∷ es) = and_then (held e.line e.wanted None) (side_b
 side_by_side number (output ∷ outputs) (e ∷ es) =
     and_then (held e.line e.wanted (Some output)) (side_by_side number outputs es)
 
--- What is told of the outputs of the line of this number; where nothing is expected of it, they may be any (own).
+-- What is told of the outputs of the line of this number. Where nothing is expected of it, they may be any but refusals:
+-- a refusal that nothing names has failed (own).
 abbrev pub compared : ℕ → List (List ℕ) → List Expectation → Printed
-compared number outputs [] = silent
+compared number outputs [] = side_by_side number (filter is_refusal outputs) []
 compared number outputs (e ∷ es) = side_by_side number outputs (e ∷ es)

@@ -1,10 +1,7 @@
 pub mod BadLine
 pub mod Comparing
 pub mod Outputs
-pub mod Report
-pub mod Run
 pub mod Story
 pub mod StoryLine
 pub mod StoryTable
 pub mod Views
-pub mod Words

@@ -1,5 +1,5 @@
 -- The outputs of a line, as a story tells them.
-use Rattle.std.specs.Prelude.{ℕ, ◌-◌, ◌||◌, List, [], ◌∷◌, ◌++◌, codes, length, take, drop, map, bytes_eq, Option, Some, None, if◌then◌else◌}
+use Rattle.std.specs.Prelude.{ℕ, Bool, ◌-◌, ◌||◌, List, [], ◌∷◌, ◌++◌, codes, length, take, drop, map, bytes_eq, Option, Some, None, if◌then◌else◌}
 use Rattle.std.specs.Fmt.{decimal}
 use Rattle.std.specs.Option.{option_and_then}
 use Rattle.tcap_play.specs.Numbers.{number_up_to}
@@ -10,11 +10,13 @@ use Rattle.tcap_lines.specs.FaultNames.{fault_name_of}
 abbrev pub ended_lines : List ℕ → List (List ℕ)
 ended_lines text = take (length (lines_of text) - 1) (lines_of text)
 
+-- Whether an output tells a refusal: `S refused ..` (own).
+abbrev pub is_refusal : List ℕ → Bool
+is_refusal output = bytes_eq (take 10 output) (codes "A refused ") || bytes_eq (take 10 output) (codes "B refused ")
+
 -- The number of the fault by which an output tells a refusal: `S refused N` (own).
 abbrev pub refusal_in : List ℕ → Option ℕ
-refusal_in output =
-    if bytes_eq (take 10 output) (codes "A refused ") || bytes_eq (take 10 output) (codes "B refused ")
-    then number_up_to 18446744073709551615 (drop 10 output) else None
+refusal_in output = if is_refusal output then number_up_to 18446744073709551615 (drop 10 output) else None
 
 -- A name behind an output (own).
 abbrev pub name_behind : Option (List ℕ) → List ℕ

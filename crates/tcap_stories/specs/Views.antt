@@ -1,5 +1,5 @@
--- Lines, outputs and reports as a contract sees them.
-use Rattle.std.specs.Prelude.{◌≡◌, ◌++◌, ◌+◌, ◌&&◌, ℕ, Bool, true, false, List, [], ◌∷◌, map, drop, Option, Some, None}
+-- Lines and outputs as a contract sees them.
+use Rattle.std.specs.Prelude.{◌≡◌, ◌++◌, ◌+◌, ◌&&◌, ◌||◌, if◌then◌else◌, ℕ, Bool, true, false, List, [], ◌∷◌, map, drop, Option, Some, None}
 use Rattle.std.specs.declared.vec.Vec.{Vec}
 use Rattle.ber_core.specs.Place.{Slice}
 use Rattle.tcap_play.specs.Pieces.{pieces_left}
@@ -7,10 +7,9 @@ use Rattle.tcap_play.specs.Play.{Played, Printed, Stepped, step_by}
 use Rattle.tcap_play.specs.EnginesView.{StandAt}
 use Rattle.tcap_play.specs.declared.by_line.Engines.{Engines}
 use Rattle.tcap_play.specs.declared.opening.Opening.{Opening}
-use Rattle.tcap_words.specs.declared.shown.Shown.{Shown}
 use Rattle.tcap_stories.specs.BadLine.{bad_line}
-use Rattle.tcap_stories.specs.Outputs.{numbered, outputs_in}
-use Rattle.tcap_stories.specs.Comparing.{Expectation, and_then, compared, side_by_side}
+use Rattle.tcap_stories.specs.Outputs.{is_refusal, numbered, outputs_in}
+use Rattle.tcap_stories.specs.Comparing.{Expectation, and_then, compared, held, side_by_side, silent}
 use Rattle.tcap_stories.specs.Story.{expectations_from, told_from}
 use Rattle.tcap_stories.specs.StoryLine as model
 use Rattle.tcap_stories.specs.declared.comparing.Comparing.{Comparing}
@@ -33,10 +32,6 @@ abbrev pub outputs_left : Option Slice → List (List ℕ)
 outputs_left None = []
 outputs_left (Some lines) = outputs_in lines.now
 
--- What is told, and whether all has passed (own).
-abbrev pub printed_view : {A : Type 0} → Shown A → Printed
-printed_view shown = record { text = shown.text.items; good = shown.good }
-
 -- What was told so far, and whether all has passed so far (own).
 abbrev pub so_far : List ℕ → Bool → Printed
 so_far text good = record { text = text; good = good }
@@ -54,6 +49,11 @@ left_of comparing = drop comparing.compared (texts_of comparing.outputs.items)
 abbrev pub still_told : Bool → ℕ → List (List ℕ) → List Expectation → Printed
 still_told true number outputs expectations = side_by_side number outputs expectations
 still_told false number outputs expectations = compared number outputs expectations
+
+-- What is told of an output of the line of this number that nothing names, where something is expected of the line, or
+-- nothing is (own).
+abbrev pub left_over : Bool → ℕ → List ℕ → Printed
+left_over expected number output = if expected || is_refusal output then held number None (Some output) else silent
 
 -- What is told of the outputs that are left where this is expected of them (own).
 abbrev pub going : {A : Type 0} → Comparing A → List Expectation → Printed

@@ -1,9 +1,10 @@
 //! The outputs of a line beside what is expected of it.
 
 ghost use Rattle.std.specs.Prelude.{◌≡◌, ◌++◌, [], List, drop, option_copied, slice_get, IfOk, OnOk};
-ghost use Rattle.tcap_stories.specs.Comparing.{Expectation, agrees, compared, failed_line, front_words, held, or_nothing, output_words, side_by_side};
-ghost use Rattle.tcap_stories.specs.Views.{Adds, Expects, going, texts_of};
+ghost use Rattle.tcap_stories.specs.Comparing.{Expectation, agrees, compared, failed_line, front_words, held, or_nothing, output_words};
+ghost use Rattle.tcap_stories.specs.Views.{Adds, Expects, going, left_over, still_told, texts_of};
 
+use crate::outputs::is_refusal;
 use crate::text::add_number;
 use ber_core::OutOfMemory;
 use std::alloc::{Allocator, Global};
@@ -112,19 +113,36 @@ fn hold_at<A: Allocator>(
     }
 }
 
-/// Tells the outputs of a line from a place on, where no more is expected, and whether there is none.
+/// Holds an output of a line that no `expect` names: it has failed where something is expected of the line, and where
+/// it is a refusal.
+fn hold_left<A: Allocator>(
+    text: &mut Vec<u8, A>,
+    line: u64,
+    expected: bool,
+    output: &[u8],
+) -> Result<bool, OutOfMemory>
+    ensures { IfOk result (λ good. Adds (left_over expected line output.now) good text.old.items text.new.items) }
+{
+    if expected || is_refusal(output) {
+        return hold(text, line, None, Some(output));
+    }
+    Ok(true)
+}
+
+/// Holds the outputs of a line from a place on, which no `expect` names, and tells whether none has failed.
 fn hold_rest<A: Allocator>(
     text: &mut Vec<u8, A>,
     line: u64,
+    expected: bool,
     outputs: &[Vec<u8, A>],
     place: usize,
 ) -> Result<bool, OutOfMemory>
-    ensures { IfOk result (λ good. Adds (side_by_side line (drop place (texts_of outputs.now)) []) good text.old.items text.new.items) }
+    ensures { IfOk result (λ good. Adds (still_told expected line (drop place (texts_of outputs.now)) []) good text.old.items text.new.items) }
 {
     let mut good = true;
     let mut place = place;
     while place < outputs.len() {
-        good &= hold(text, line, None, Some(&outputs[place]))?;
+        good &= hold_left(text, line, expected, &outputs[place])?;
         place += 1;
     }
     Ok(good)
@@ -160,14 +178,11 @@ impl<A: Allocator + Copy> Comparing<A> {
         Ok(good)
     }
 
-    /// Tells whether no output is left, where something was expected; those that are left are added.
+    /// Tells whether the outputs that no `expect` names are fine: there is none where something was expected, and no
+    /// refusal where nothing was. The others are added.
     pub(crate) fn end(&self, text: &mut Vec<u8, A>) -> Result<bool, OutOfMemory>
         ensures { IfOk result (λ good. Adds (going self.now []) good text.old.items text.new.items) }
     {
-        if self.expected {
-            hold_rest(text, self.line, &self.outputs, self.compared)
-        } else {
-            Ok(true)
-        }
+        hold_rest(text, self.line, self.expected, &self.outputs, self.compared)
     }
 }

@@ -3,7 +3,7 @@
 ghost use Rattle.std.specs.Prelude.{◌≡◌, ◌++◌, ◌<◌, length, OnOk, IfOk, IfSome, option_map};
 ghost use Rattle.std.specs.Option.{option_and_then};
 ghost use Rattle.tcap_lines.specs.FaultNames.{fault_name_of};
-ghost use Rattle.tcap_stories.specs.Outputs.{numbered, outputs_in, refusal_in, told};
+ghost use Rattle.tcap_stories.specs.Outputs.{is_refusal, numbered, outputs_in, refusal_in, told};
 ghost use Rattle.tcap_stories.specs.Views.{outputs_left, texts_of};
 
 use crate::text::add_number;
@@ -11,6 +11,16 @@ use ber_core::OutOfMemory;
 use std::alloc::Allocator;
 use tcap_lines::fault_name;
 use tcap_play::{first_piece, number};
+
+/// Whether an output tells a refusal: `S refused ..`.
+pub(crate) fn is_refusal(output: &[u8]) -> bool
+    ensures { result ≡ is_refusal output.now }
+{
+    matches!(
+        output.split_at_checked(10),
+        Some((b"A refused " | b"B refused ", _))
+    )
+}
 
 /// The number of the fault by which an output tells a refusal: `S refused N`.
 fn refusal_in(output: &[u8]) -> Option<u64>

@@ -32,7 +32,8 @@ fn tell_outputs<A: Allocator + Copy>(
     text: &mut Vec<u8, A>,
 ) -> Result<Comparing<A>, OutOfMemory>
     ensures told { OnOk result (text.new.items ≡ text.old.items ++ numbered number (outputs_in printed.now)) }
-    ensures left { IfOk result (λ next. (expectations : List Expectation) → going next expectations ≡ compared number (outputs_in printed.now) expectations) }
+    ensures left { IfOk result (λ next. (expectations : List Expectation)
+        → going next expectations ≡ compared number (outputs_in printed.now) expectations) }
 {
     let outputs = outputs_in(alloc, printed)?;
     add_numbered(text, number, &outputs)?;
@@ -47,7 +48,8 @@ fn play_line<A: Allocator + Copy>(
     line: &[u8],
     text: &mut Vec<u8, A>,
 ) -> Result<Option<Comparing<A>>, OutOfMemory>
-    ensures { IfOk result (λ next. PlaysOn number line.now next engines.old engines.new text.old.items text.new.items) }
+    ensures { IfOk result (λ next. PlaysOn number line.now next engines.old engines.new
+        text.old.items text.new.items) }
 {
     let mut printed = String::new(alloc);
     if engines.play_line(alloc, line, &mut printed)? {
@@ -69,7 +71,8 @@ fn play<A: Allocator + Copy>(
     text: &mut Vec<u8, A>,
 ) -> Result<Told, OutOfMemory>
     requires { kind_of line.now ≡ Kind.plays }
-    ensures { IfOk result (λ told. Tells number line.now told comparing.old comparing.new engines.old engines.new text.old.items text.new.items) }
+    ensures { IfOk result (λ told. Tells number line.now told comparing.old comparing.new engines.old engines.new
+        text.old.items text.new.items) }
 {
     let good = comparing.end(text)?;
     let played = play_line(alloc, engines, number, line, text)?;
@@ -92,7 +95,8 @@ fn expect<A: Allocator + Copy>(
     wanted: &[u8],
     text: &mut Vec<u8, A>,
 ) -> Result<Told, OutOfMemory>
-    ensures held { IfOk result (λ told. Expects (record { line = number; wanted = wanted_by wanted.now }) told.good comparing.old comparing.new text.old.items text.new.items) }
+    ensures held { IfOk result (λ told. Expects (record { line = number; wanted = wanted_by wanted.now }) told.good
+        comparing.old comparing.new text.old.items text.new.items) }
     ensures goes_on { IfOk result (λ told. told.ends ≡ false) }
 {
     let good = comparing.expect(text, number, wanted_by(wanted))?;
@@ -108,7 +112,8 @@ fn tell_line<A: Allocator + Copy>(
     line: &[u8],
     text: &mut Vec<u8, A>,
 ) -> Result<Told, OutOfMemory>
-    ensures { IfOk result (λ told. Tells number line.now told comparing.old comparing.new engines.old engines.new text.old.items text.new.items) }
+    ensures { IfOk result (λ told. Tells number line.now told comparing.old comparing.new engines.old engines.new
+        text.old.items text.new.items) }
 {
     match kind_of(line) {
         StoryLine::Skipped => Ok(Told {
@@ -150,7 +155,7 @@ fn tell_lines<A: Allocator + Copy>(
 
 /// What is told of a story, and whether it has passed: the lines of a play are played, and their outputs told with
 /// the numbers of the lines that they come from; outputs that aren't those that `expect` lines say are told too, and
-/// a bad line with why it is bad, which ends the story.
+/// refusals that none names, and a bad line with why it is bad, which ends the story.
 ///
 /// ```rust
 /// let story = story_text(rt.alloc(), b"A new\nexpect A new 2\n")?;

@@ -1,105 +1,58 @@
-//! The program `tcap_story`: tells the stories in the files that its words name, and whether each has passed. The
-//! status is 0 where all have, 1 where one has failed, 2 where there is no verdict.
+//! The program `tcap_story`: hands its words, the files and its standard streams to `run_stories`, and answers its
+//! status.
 #![tactic(auto)]
 
-use std::io::{ErrorKind, Write};
+use std::fs::File;
+use std::io::ErrorKind;
 use std::process::ExitCode;
 use std::{env, fs, io};
-use tcap_stories::{Report, Request, read_words, run_story, write_end, write_front};
-use tcap_text::PlayFault;
+use tcap_story_cmd::{Refusal, Sources, report, run_stories};
 
-/// How the program is called.
-const HELP: &str = "\
-tcap_story [--junit] [FILE ..]
-Tells the stories in the files, or on standard input where none is named; - is standard input too.
-A story is a script of tcap play, with lines `expect OUTPUT` and `expect nothing` behind those that print it.
-The status is 0 where all have passed, 1 where one has failed, 2 where there is no verdict.
-  --junit  tells them in JUnit's XML
-  --help   prints this
-";
-
-/// The status of a run that came to no verdict.
-const REFUSED: u8 = 2;
-
-/// Tells on standard error why there is no verdict, a failing write passed over, and gives the status.
-fn refuse(rt: &HostRuntime, why: &str) -> u8 {
-    let _ = writeln!(rt.stderr(), "tcap_story: {why}");
-    REFUSED
+/// The files of the system, by their names.
+#[derive(Clone, Copy)]
+struct Files<'a> {
+    rt: &'a HostRuntime,
 }
 
-/// Tells on standard error which story came to no verdict, and why.
-fn refuse_story(rt: &HostRuntime, name: &str, fault: PlayFault) -> u8 {
-    let _ = writeln!(rt.stderr(), "tcap_story: {name}: {fault}");
-    REFUSED
-}
+impl Sources for Files<'_> {
+    type Source = File;
 
-/// Tells the story of a file, or of standard input where its name is `-`.
-fn tell(rt: &HostRuntime, report: Report, name: &str) -> Result<bool, PlayFault> {
-    let mut out = io::writer(rt);
-    if name == "-" {
-        return run_story(rt.alloc(), report, name, &mut rt.reader(), &mut out);
-    }
-    match fs::open(rt, name) {
-        Ok(mut file) => run_story(rt.alloc(), report, name, &mut file, &mut out),
-        Err(error) if error.kind() == ErrorKind::OutOfMemory => Err(PlayFault::OutOfMemory),
-        Err(_) => Err(PlayFault::Read),
+    ghost use Rattle.std.specs.Prelude.{None};
+
+    ghost octets_of = { λ _ _. None };
+
+    fn open(&self, name: &str) -> io::Result<File> {
+        fs::open(self.rt, name)
     }
 }
 
-/// Tells the stories of these names, one after the other, and gives the status.
-fn tell_all(rt: &HostRuntime, report: Report, names: &[&str]) -> u8 {
-    let mut out = io::writer(rt);
-    let (mut passed, mut failed) = (0u64, 0u64);
-    if write_front(report, &mut out).is_err() {
-        return refuse(rt, "write failed");
-    }
-    for name in names {
-        match tell(rt, report, name) {
-            Ok(true) => passed = passed.saturating_add(1),
-            Ok(false) => failed = failed.saturating_add(1),
-            Err(fault) => return refuse_story(rt, name, fault),
-        }
-    }
-    match write_end(rt.alloc(), report, passed, failed, &mut out) {
-        Ok(()) if failed == 0 => 0,
-        Ok(()) => 1,
-        Err(PlayFault::OutOfMemory) => refuse(rt, "out of memory"),
-        Err(_) => refuse(rt, "write failed"),
-    }
-}
-
-/// Does what the words behind the program's name ask for, and gives the status.
-fn run(rt: &HostRuntime, words: &[&str]) -> u8 {
-    match read_words(words) {
-        Some(Request::Stories(report, [])) => tell_all(rt, report, &["-"]),
-        Some(Request::Stories(report, names)) => tell_all(rt, report, names),
-        Some(Request::Help) => match io::writer(rt).write_all(HELP.as_bytes()) {
-            Ok(()) => 0,
-            Err(_) => refuse(rt, "write failed"),
-        },
-        None => refuse(rt, "bad command"),
-    }
-}
-
+/// Collects the words after the program's name and runs them. Words that are no text are a bad
+/// command.
 fn main(rt: HostRuntime) -> ExitCode {
+    let alloc = rt.alloc();
+    let mut err = rt.stderr();
     let args = match env::args(&rt) {
         Ok(args) => args,
         Err(error) if error.kind() == ErrorKind::OutOfMemory => {
-            return ExitCode::from(refuse(&rt, "out of memory"));
+            return ExitCode::from(report(&mut err, Refusal::OutOfMemory));
         }
-        Err(_) => return ExitCode::from(refuse(&rt, "bad command")),
+        Err(_) => return ExitCode::from(report(&mut err, Refusal::BadCommand)),
     };
-    let mut words = Vec::new(rt.alloc());
+    let mut words = Vec::new(alloc);
     for arg in args.skip(1) {
         if words.push(arg).is_err() {
-            return ExitCode::from(refuse(&rt, "out of memory"));
+            return ExitCode::from(report(&mut err, Refusal::OutOfMemory));
         }
     }
-    let mut texts: Vec<&str> = Vec::new(rt.alloc());
+    let mut texts: Vec<&str> = Vec::new(alloc);
     for word in &words {
         if texts.push(word.as_str()).is_err() {
-            return ExitCode::from(refuse(&rt, "out of memory"));
+            return ExitCode::from(report(&mut err, Refusal::OutOfMemory));
         }
     }
-    ExitCode::from(run(&rt, texts.as_slice()))
+    let sources = Files { rt: &rt };
+    let mut reader = rt.reader();
+    let mut out = io::writer(&rt);
+    let words = texts.as_slice();
+    ExitCode::from(run_stories(alloc, words, &sources, &mut reader, &mut out, &mut err))
 }

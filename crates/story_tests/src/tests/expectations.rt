@@ -63,6 +63,23 @@ const ROWS: &[(&str, &str, bool)] = &[
         "1 A refused 2 unknown dialogue\n",
         true,
     ),
+    // A refusal that nothing names has failed: at the line itself, and behind the last of a story.
+    (
+        "A new\nA invoke 1 1 1 10 0 - -",
+        "1 A new 1\n2 A refused 6 bad timeout\nline 2 failed: expected nothing, found A refused 6 bad timeout\n",
+        false,
+    ),
+    (
+        "A cancel 1 1\nA new\nexpect A new 1",
+        "1 A refused 2 unknown dialogue\nline 1 failed: expected nothing, found A refused 2 unknown dialogue\n2 A new 1\n",
+        false,
+    ),
+    // One that is named by another number has failed once.
+    (
+        "A cancel 1 1\nexpect A refused 5 no such invocation",
+        "1 A refused 2 unknown dialogue\nline 2 failed: expected A refused 5 no such invocation, found A refused 2 unknown dialogue\n",
+        false,
+    ),
 ];
 
 /// Whether this is told of a story.

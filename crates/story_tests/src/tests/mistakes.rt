@@ -127,6 +127,10 @@ const ROWS: &[(&str, &str)] = &[
         "line 2 bad: word 2, a message to the other side that was neither received nor lost\n",
     ),
     (
+        "A begin 1 - -\ndeliver A1\ndeliver A1",
+        "2 A send A1 6206480400000001\n3 B begin 1 context - info -\nline 4 bad: word 2, a message to the other side that was neither received nor lost\n",
+    ),
+    (
         "again A1",
         "line 2 bad: word 2, a message that was received\n",
     ),
@@ -147,20 +151,30 @@ const ROWS: &[(&str, &str)] = &[
         "expect",
         "line 2 bad: word 2 is missing, the text of an output or nothing\n",
     ),
-    // No mistake of form: a refusal by number and name.
+    // No mistake of form: a refusal by number and name, which nothing expects.
     (
         "A invoke 1 1 1 10 1000 - 0402AA",
-        "2 A refused 12 bad parameter\n",
+        "2 A refused 12 bad parameter\nline 2 failed: expected nothing, found A refused 12 bad parameter\n",
     ),
     (
         "A invoke 2 1 1 10 1000 - -",
-        "2 A refused 2 unknown dialogue\n",
+        "2 A refused 2 unknown dialogue\nline 2 failed: expected nothing, found A refused 2 unknown dialogue\n",
     ),
-    ("A invoke 1 1 1 10 0 - -", "2 A refused 6 bad timeout\n"),
-    ("A cancel 1 1", "2 A refused 5 no such invocation\n"),
+    (
+        "A invoke 1 1 1 10 0 - -",
+        "2 A refused 6 bad timeout\nline 2 failed: expected nothing, found A refused 6 bad timeout\n",
+    ),
+    (
+        "A cancel 1 1",
+        "2 A refused 5 no such invocation\nline 2 failed: expected nothing, found A refused 5 no such invocation\n",
+    ),
+    (
+        "A begin 1 80 -",
+        "2 A refused 11 bad oid\nline 2 failed: expected nothing, found A refused 11 bad oid\n",
+    ),
 ];
 
-/// Whether this is told of a line behind `A new`, and the story has passed where the line isn't bad.
+/// Whether this is told of a line behind `A new`, and the story has failed.
 fn is_told(alloc: Global, line: &str, told: &str) -> bool {
     let mut script = Vec::new(alloc);
     let mut text = Vec::new(alloc);
@@ -169,10 +183,7 @@ fn is_told(alloc: Global, line: &str, told: &str) -> bool {
         && text.extend_from_slice(b"1 A new 1\n").is_ok()
         && text.extend_from_slice(told.as_bytes()).is_ok();
     match story_text(alloc, &script) {
-        Ok(story) => {
-            made && story.text.as_slice() == text.as_slice()
-                && story.good != told.starts_with("line")
-        }
+        Ok(story) => { made && story.text.as_slice() == text.as_slice() && !story.good }
         Err(_) => false,
     }
 }

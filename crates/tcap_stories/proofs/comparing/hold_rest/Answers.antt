@@ -10,4 +10,4 @@ loop-place-preserved g c =
     let low : place < length outputs = search rules in
     let at = texts_at outputs place c.index-outputs-place.result low in
     let is : slice_get (texts_of outputs) place ≡ some_text c.deref.result.now = search (rules, at) in
-    c.loop-place.invariant ∙ one_more c.loop-place.text.items c.hold.new.text.items c.loop-place.good c.in_ok-good.field-0 c.args.line (texts_of outputs) place c.deref.result.now is c.in_ok-good.ensures
+    c.loop-place.invariant ∙ one_more c.loop-place.text.items c.hold_left.new.text.items c.loop-place.good c.in_ok-good.field-0 c.args.expected c.args.line (texts_of outputs) place c.deref.result.now is c.in_ok-good.ensures
