@@ -28,11 +28,16 @@ PROBLEMS = {
 def read(messages):
     """What tshark says of each message: its fields, joined by "|", or "refused" and why."""
     with tempfile.NamedTemporaryFile(prefix="tcap-messages-", suffix=".pcap") as file:
-        file.write(struct.pack("<IHHiIII", 0xA1B2C3D4, 2, 4, 0, 0, 0x40000, USER_LINK))
-        for message in messages:
-            file.write(struct.pack("<IIII", 0, 0, len(message), len(message)) + message)
-        file.flush()
+        write_capture(file, messages)
         return packets(file.name, messages)
+
+
+def write_capture(file, messages):
+    """Writes a capture of messages, each a packet."""
+    file.write(struct.pack("<IHHiIII", 0xA1B2C3D4, 2, 4, 0, 0, 0x40000, USER_LINK))
+    for message in messages:
+        file.write(struct.pack("<IIII", 0, 0, len(message), len(message)) + message)
+    file.flush()
 
 
 def packets(capture, messages):

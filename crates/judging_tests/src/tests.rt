@@ -3,5 +3,7 @@
 mod devices;
 mod growths;
 mod long_lines;
+mod names;
+mod resync;
 mod streams;
 mod words;

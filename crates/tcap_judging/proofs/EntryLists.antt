@@ -6,7 +6,7 @@ use Rattle.std.specs.Io.KnownBytes.{Appends}
 use Rattle.tcap_words.specs.Writing.{IsFront}
 use Rattle.tcap_judging.specs.Entry.{Entry, line, numbered}
 use Rattle.tcap_judging.specs.EntryText.{entry_text, entries_text, is_good_entry, are_good}
-use Rattle.tcap_judging.specs.declared.form.Form.{Form}
+use Rattle.tcap_judging.specs.Form.{Form}
 
 pub text-append : (form : Form) (xs ys : List Entry) → entries_text form (xs ++ ys) ≡ entries_text form xs ++ entries_text form ys
 text-append form xs ys = flat_map-append (entry_text form) xs ys

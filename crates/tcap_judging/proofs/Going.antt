@@ -1,16 +1,14 @@
 -- An input that is read piece by piece, whatever it tells.
-use Rattle.std.proofs.Common.{◌≡◌, ◌≢◌, ◌≤◌, ◌<◌, ◌+◌, ◌++◌, ◌∙◌, ◌&&◌, ℕ, Bool, true, false, List, [], ◌∷◌, inl, inr, length, Option, Some, None, refl, sym, ap, subst, take, arith, append-nil}
+use Rattle.std.proofs.Common.{◌≡◌, ◌≢◌, ◌≤◌, ◌<◌, ◌+◌, ◌++◌, ◌∙◌, ◌&&◌, ℕ, Bool, true, List, [], ◌∷◌, inl, inr, length, Option, refl, sym, ap, subst, take, arith, append-nil}
 use Rattle.std.proofs.KnownBytes.{Appends-nil, Appends-trans, Consumes-kept, Consumes-nil, Consumes-trans}
 use Rattle.std.proofs.lemmas.List.{length-append}
 use Rattle.std.specs.Io.KnownBytes.{Appends, Consumes, IsAtEnd, Keeps}
 use Rattle.tcap_judging.proofs.EntryLists.{good-more, text-append}
 use Rattle.tcap_judging.specs.Entry.{Entry, IsBroken}
 use Rattle.tcap_judging.specs.EntryText.{are_good, entries_text}
-use Rattle.tcap_judging.specs.Run.{IsCut, IsEndless, IsHalted, IsJudged, IsShort, IsUnjudged}
-use Rattle.tcap_judging.specs.declared.fault.JudgingFault.{JudgingFault}
-use Rattle.tcap_judging.specs.declared.fault.JudgingFault.TheVariants as fault
+use Rattle.tcap_judging.specs.Run.{IsCut, IsEndless, IsHalted, IsJudged, IsShort}
 use Rattle.tcap_words.specs.Writing.{IsFront}
-use Rattle.tcap_judging.specs.declared.form.Form.{Form}
+use Rattle.tcap_judging.specs.Form.{Form}
 
 module _ (form : Form) (Tells : List ℕ → List Entry → List Entry → Type 0) where
   -- the text of all entries so far was written, and each read gave an octet

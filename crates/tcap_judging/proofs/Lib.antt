@@ -3,8 +3,12 @@ mod Going
 mod GoodMessages
 mod LineCuts
 mod LineGoing
+mod NameLists
 mod Names
 mod Options
 mod Places
+mod ResyncCuts
+mod ResyncGoing
+mod ResyncSteps
 mod StreamCuts
 mod StreamGoing

@@ -1,16 +1,16 @@
 -- Lines that a piece of the input makes whole, one after the other.
-use Rattle.std.proofs.Common.{◌≡◌, ◌≤◌, ◌<◌, ◌+◌, ◌++◌, ◌∙◌, ◌∷◌, ◌&&◌, ℕ, Bool, true, false, List, [], length, refl, sym, ap, subst, arith, append_assoc, append-nil}
+use Rattle.std.proofs.Common.{◌≡◌, ◌+◌, ◌++◌, ◌∙◌, ◌∷◌, ◌&&◌, ℕ, Bool, true, false, List, [], length, refl, sym, ap, arith, append_assoc, append-nil}
 use Rattle.std.proofs.lemmas.Grind.{flat_map-append}
 use Rattle.std.proofs.lemmas.List.{length-append}
 use Rattle.std.proofs.lemmas.List.Folds.{list_all-append}
 use Rattle.std.specs.List.{AllByRecursion}
 use Rattle.tcap_judging.proofs.EntryLists.{good-alone, good-more, numbered-append, text-alone, text-append}
-use Rattle.tcap_judging.specs.Entry.{Entry, line, numbered}
+use Rattle.tcap_judging.specs.Entry.{line, numbered}
 use Rattle.tcap_judging.specs.EntryText.{are_good, entries_text, entry_text, is_good_entry}
-use Rattle.tcap_judging.specs.Lines.{IsInLines, ended, is_one_line, line_feed}
+use Rattle.tcap_judging.specs.Lines.{ended, is_one_line, line_feed}
 use Rattle.tcap_judging.specs.LineSteps.{Adds}
 use Rattle.tcap_judging.specs.LineViews.{AreKept, IsUnderWay}
-use Rattle.tcap_judging.specs.declared.form.Form.{Form}
+use Rattle.tcap_judging.specs.Form.{Form}
 
 abbrev IsLine : List ℕ → Type 0
 IsLine octets = is_one_line octets ≡ true

@@ -1,5 +1,5 @@
 -- Lines that are read piece by piece.
-use Rattle.std.proofs.Common.{◌≡◌, ◌≢◌, ◌≤◌, ◌<◌, ◌+◌, ◌++◌, ◌∙◌, ◌∷◌, ◌&&◌, ℕ, Bool, List, [], length, Option, Result, Ok, Err, refl, sym, ap, subst, take, arith, append_assoc}
+use Rattle.std.proofs.Common.{◌≡◌, ◌≢◌, ◌<◌, ◌+◌, ◌++◌, ◌∙◌, ◌∷◌, ◌&&◌, ℕ, Bool, List, [], length, Option, Result, Ok, Err, refl, sym, ap, subst, take, arith, append_assoc}
 use Rattle.std.proofs.lemmas.List.{length-append}
 use Rattle.std.specs.Io.KnownBytes.{Appends, Consumes, IsAtEnd}
 use Rattle.std.specs.Prelude.{MatchResult}
@@ -15,7 +15,7 @@ use Rattle.tcap_judging.specs.Run.{IsJudged, IsUnjudged}
 use Rattle.tcap_judging.specs.declared.fault.JudgingFault.{JudgingFault}
 use Rattle.tcap_judging.specs.declared.fault.JudgingFault.TheVariants as fault
 use Rattle.tcap_words.specs.Writing.{IsFront}
-use Rattle.tcap_judging.specs.declared.form.Form.{Form}
+use Rattle.tcap_judging.specs.Form.{Form}
 
 -- nothing was read
 abbrev pub no_lines : LinesTell [] [] (numbered 1 ([] ∷ []))

@@ -1,17 +1,16 @@
 -- Messages that begin octets, one after the other.
-use Rattle.std.proofs.Common.{◌≡◌, ◌≤◌, ◌<◌, ◌+◌, ◌-◌, ◌++◌, ◌∙◌, ◌∷◌, ◌&&◌, ℕ, Bool, true, List, [], length, take, drop, Option, None, refl, sym, ap, arith, append_assoc, append-nil}
+use Rattle.std.proofs.Common.{◌≡◌, ◌≤◌, ◌<◌, ◌+◌, ◌++◌, ◌∙◌, ◌∷◌, ◌&&◌, ℕ, Bool, true, List, [], length, take, drop, Option, None, refl, sym, ap, arith, append_assoc, append-nil}
 use Rattle.std.proofs.lemmas.List.{drop_at, length-append, length-take, take-append-drop, take_at}
 use Rattle.ber_core.proofs.CallerLemmas.{IsElement-longer}
-use Rattle.ber_core.proofs.CutGrammar.{after_messages, cut-message, cut-stops}
-use Rattle.ber_core.specs.declared.fault.BerFault.{BerFault}
+use Rattle.ber_core.proofs.CutGrammar.{after_messages, cut-message}
 use Rattle.ber_core.specs.declared.fault.FeedFault.{FeedFault}
 use Rattle.ber_core.specs.Element.{IsElement, Parts, depth_limit}
-use Rattle.ber_core.specs.Stream.{Cut, cut_by, cut_into, cut_of, rest_fault, with_message}
+use Rattle.ber_core.specs.Stream.{cut_by, cut_into, cut_of, with_message}
 use Rattle.tcap_judging.proofs.EntryLists.{good-alone, good-more, text-alone, text-append}
-use Rattle.tcap_judging.specs.Entry.{Entry, broken_entries, message, message_entries, octets_in}
+use Rattle.tcap_judging.specs.Entry.{broken_entries, message, message_entries, octets_in}
 use Rattle.tcap_judging.specs.EntryText.{are_good, entries_text, entry_text, is_good_entry}
 use Rattle.tcap_judging.specs.StreamSteps.{AddsMessages, AddsOctets}
-use Rattle.tcap_judging.specs.declared.form.Form.{Form}
+use Rattle.tcap_judging.specs.Form.{Form}
 
 -- an element within the limit is the first message
 pub message-first : (octets : List ℕ) (e : Parts) (rest : List ℕ) → IsElement depth_limit e → take 65535 octets ≡ e.whole ++ rest
@@ -71,6 +70,7 @@ module _ (form : Form) (octets rest : List ℕ) (offset place : ℕ) (old mid : 
   stopped fault stops = record {
     messages = s.messages;
     is_cut = s.is_cut ∙ ap (after_messages s.messages) stops ∙ ap (λ ms. cut_into ms rest fault) (append-nil s.messages);
+    is_rest = stops;
     is_next = s.is_place;
     added = s.added;
     verdict = s.verdict;

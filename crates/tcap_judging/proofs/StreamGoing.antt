@@ -1,5 +1,5 @@
 -- A stream that is read piece by piece.
-use Rattle.std.proofs.Common.{◌≡◌, ◌≢◌, ◌≤◌, ◌<◌, ◌+◌, ◌++◌, ◌∙◌, ◌∷◌, ◌&&◌, ℕ, Bool, true, false, List, [], length, Option, Some, None, Result, Ok, Err, refl, sym, ap, subst, take, arith, append_assoc, append-nil}
+use Rattle.std.proofs.Common.{◌≡◌, ◌≢◌, ◌<◌, ◌+◌, ◌++◌, ◌∙◌, ◌∷◌, ◌&&◌, ℕ, Bool, true, false, List, [], length, Option, Some, None, Result, Ok, Err, refl, sym, ap, subst, take, arith, append_assoc, append-nil}
 use Rattle.std.specs.Io.KnownBytes.{Appends, Consumes, IsAtEnd}
 use Rattle.std.specs.Option.{is_some}
 use Rattle.std.specs.Prelude.{MatchResult}
@@ -8,14 +8,14 @@ use Rattle.ber_core.specs.declared.fault.FeedFault.{FeedFault}
 use Rattle.ber_core.specs.Stream.{Cut, cut_into, cut_of}
 use Rattle.tcap_judging.proofs.Going.{IsGoing, cut-end, cut-piece, finished, goes-on, short-end, short-piece, stopped}
 use Rattle.tcap_judging.proofs.StreamCuts.{messages-append, none-left, octets-append}
-use Rattle.tcap_judging.specs.Entry.{Entry, IsBroken, StreamTells, broken_entries, message, message_entries, octets_in, unfinished_entries}
+use Rattle.tcap_judging.specs.Entry.{Entry, IsBroken, StreamTells, broken_entries, message_entries, octets_in, unfinished_entries}
 use Rattle.tcap_judging.specs.EntryText.{are_good, entries_text}
 use Rattle.tcap_judging.specs.Run.{IsJudged, IsUnjudged}
 use Rattle.tcap_judging.specs.StreamSteps.{AreOctetsUntaken, IsRestUntold, TakesOctets, WritesOctets}
 use Rattle.tcap_judging.specs.declared.fault.JudgingFault.{JudgingFault}
 use Rattle.tcap_judging.specs.declared.fault.JudgingFault.TheVariants as fault
 use Rattle.tcap_words.specs.Writing.{IsFront}
-use Rattle.tcap_judging.specs.declared.form.Form.{Form}
+use Rattle.tcap_judging.specs.Form.{Form}
 
 -- nothing was read
 abbrev pub nothing : StreamTells [] [] []

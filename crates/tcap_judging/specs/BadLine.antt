@@ -12,7 +12,8 @@ column_words column expected octet = codes "column " ++ (decimal column ++ (expe
 -- The words for what is wrong in a line (own).
 abbrev pub bad_words : BadLine → List ℕ
 bad_words bad.TooLong = codes "more than 200000 octets"
-bad_words (bad.Name column octet) = column_words column (codes ": expected a name of visible ASCII without quotation marks and backslashes, found 0x") octet
+bad_words (bad.Name column octet) = column_words column
+    (codes ": expected a name of visible ASCII without quotation marks and backslashes, found 0x") octet
 bad_words (bad.Digit column octet) = column_words column (codes ": expected a hexadecimal digit, found 0x") octet
 bad_words bad.NoDigits = codes "no hexadecimal digits"
 bad_words bad.OddDigits = codes "an odd number of hexadecimal digits"

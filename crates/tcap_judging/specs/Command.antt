@@ -1,25 +1,29 @@
 -- What a run of the command gives: what it writes and its verdict, or why it came to none.
-use Rattle.std.specs.Prelude.{◌≡◌, ◌≢◌, ◌⊎◌, ℕ, Bool, true, false, List, [], ◌++◌, codes, Option, Result, Ok, Err, MatchResult}
+use Rattle.std.specs.Prelude.{◌≡◌, ◌≢◌, ◌⊎◌, ℕ, Bool, true, false, List, [], Option, Result, Ok, Err, MatchResult}
 use Rattle.std.specs.Io.KnownBytes.{Appends, Keeps}
-use Rattle.clap.specs.Words.{Text, fault_of}
-use Rattle.tcap_judging.specs.CommandLine.{Ask, judge_app}
+use Rattle.clap.specs.Words.{Text}
+use Rattle.tcap_judging.specs.CommandLine.{Ask, AskNothing}
 use Rattle.tcap_judging.specs.Entry.{LinesTell, StreamTells}
+use Rattle.tcap_judging.specs.Form.{form_by}
 use Rattle.tcap_judging.specs.HelpText.{help_text, version_text}
+use Rattle.tcap_judging.specs.Names.{NameParts}
+use Rattle.tcap_judging.specs.Resync.{ResyncTells}
 use Rattle.tcap_judging.specs.Run.{IsJudged, IsUnjudged}
 use Rattle.tcap_judging.specs.declared.fault.JudgingFault.{JudgingFault}
 use Rattle.tcap_judging.specs.declared.fault.JudgingFault.TheVariants as fault
 use Rattle.tcap_judging.specs.declared.refusal.Refusal.{Refusal}
-use Rattle.tcap_judging.specs.declared.refusal.Refusal.TheVariants.{BadCommand, Fault}
+use Rattle.tcap_judging.specs.declared.refusal.Refusal.TheVariants.{BadCommand, Fault, NoNames, BadNames}
 use Rattle.tcap_judging.specs.declared.request.Request.{Request}
-use Rattle.tcap_judging.specs.declared.request.Request.TheVariants.{Help, Version, Lines, Stream}
+use Rattle.tcap_judging.specs.declared.request.Request.TheVariants.{Help, Version, Lines, Stream, Resync}
 use Rattle.tcap_words.specs.Writing.{IsFront}
 
 -- What is asked for was written, and this is the verdict (own).
-abbrev pub IsAnswered : Request → Option (List ℕ) → Option (List ℕ) → Option (List ℕ) → Option (List ℕ) → Bool → Type 0
-IsAnswered Help had left old new good = Appends old new help_text × (good ≡ true)
-IsAnswered Version had left old new good = Appends old new version_text × (good ≡ true)
-IsAnswered (Lines form) had left old new good = IsJudged form LinesTell had left old new good
-IsAnswered (Stream form) had left old new good = IsJudged form StreamTells had left old new good
+abbrev pub IsAnswered : Option (List NameParts) → Request → Option (List ℕ) → Option (List ℕ) → Option (List ℕ) → Option (List ℕ) → Bool → Type 0
+IsAnswered names Help had left old new good = Appends old new help_text × (good ≡ true)
+IsAnswered names Version had left old new good = Appends old new version_text × (good ≡ true)
+IsAnswered names (Lines layout) had left old new good = IsJudged (form_by layout names) LinesTell had left old new good
+IsAnswered names (Stream layout) had left old new good = IsJudged (form_by layout names) StreamTells had left old new good
+IsAnswered names (Resync layout) had left old new good = IsJudged (form_by layout names) ResyncTells had left old new good
 
 -- A text was not written, since a write failed: a front of it was, but not all of it (own).
 abbrev pub IsTextCut : List ℕ → Option (List ℕ) → Option (List ℕ) → JudgingFault → Type 0
@@ -29,31 +33,40 @@ IsTextCut text old new fault.Write = IsFront text old new
 IsTextCut text old new fault.TooLong = ⊥
 
 -- Why what is asked for was not written to its end, and what was (own).
-abbrev pub IsUnanswered : Request → Option (List ℕ) → Option (List ℕ) → Option (List ℕ) → Option (List ℕ) → JudgingFault → Type 0
-IsUnanswered Help had left old new f = IsTextCut help_text old new f
-IsUnanswered Version had left old new f = IsTextCut version_text old new f
-IsUnanswered (Lines form) had left old new f = IsUnjudged form LinesTell had left old new f
-IsUnanswered (Stream form) had left old new f = IsUnjudged form StreamTells had left old new f
+abbrev pub IsUnanswered : Option (List NameParts) → Request → Option (List ℕ) → Option (List ℕ) → Option (List ℕ) → Option (List ℕ)
+    → JudgingFault → Type 0
+IsUnanswered names Help had left old new f = IsTextCut help_text old new f
+IsUnanswered names Version had left old new f = IsTextCut version_text old new f
+IsUnanswered names (Lines layout) had left old new f = IsUnjudged (form_by layout names) LinesTell had left old new f
+IsUnanswered names (Stream layout) had left old new f = IsUnjudged (form_by layout names) StreamTells had left old new f
+IsUnanswered names (Resync layout) had left old new f = IsUnjudged (form_by layout names) ResyncTells had left old new f
 
 -- What is asked for is read from standard input (own).
 abbrev pub Reads : Request → Type 0
 Reads Help = ⊥
 Reads Version = ⊥
-Reads (Lines form) = Unit {0}
-Reads (Stream form) = Unit {0}
+Reads (Lines layout) = Unit {0}
+Reads (Stream layout) = Unit {0}
+Reads (Resync layout) = Unit {0}
 
 -- The words ask for something that came to no end (own).
-abbrev pub IsAskedInVain : List Text → Option (List ℕ) → Option (List ℕ) → Option (List ℕ) → Option (List ℕ) → JudgingFault → Type 0
-IsAskedInVain words had left old new f = (request : Request) × Ask words request × IsUnanswered request had left old new f
+abbrev pub IsAskedInVain : Option (List NameParts) → List Text → Option (List ℕ) → Option (List ℕ) → Option (List ℕ) → Option (List ℕ)
+    → JudgingFault → Type 0
+IsAskedInVain names words had left old new f = (request : Request) × Ask words request
+    × IsUnanswered names request had left old new f
 
--- Why a run came to no verdict: `clap` refuses something in the words, or memory was refused before they were read,
--- and nothing was written; or what they ask for came to no end (own).
-abbrev pub IsRefusal : List Text → Option (List ℕ) → Option (List ℕ) → Option (List ℕ) → Option (List ℕ) → Refusal → Type 0
-IsRefusal words had left old new BadCommand = (fault_of judge_app words ≢ []) × Keeps old new
-IsRefusal words had left old new (Fault fault.OutOfMemory) = Keeps old new ⊎ IsAskedInVain words had left old new fault.OutOfMemory
-IsRefusal words had left old new (Fault fault.Read) = IsAskedInVain words had left old new fault.Read
-IsRefusal words had left old new (Fault fault.Write) = IsAskedInVain words had left old new fault.Write
-IsRefusal words had left old new (Fault fault.TooLong) = IsAskedInVain words had left old new fault.TooLong
+-- Why a run came to no verdict: the words ask for nothing, or memory was refused before they were read, and nothing
+-- was written; or what they ask for came to no end. What is wrong with a list of names no run tells (own).
+abbrev pub IsRefusal : Option (List NameParts) → List Text → Option (List ℕ) → Option (List ℕ) → Option (List ℕ) → Option (List ℕ) → Refusal
+    → Type 0
+IsRefusal names words had left old new BadCommand = AskNothing words × Keeps old new
+IsRefusal names words had left old new (Fault fault.OutOfMemory) = Keeps old new
+    ⊎ IsAskedInVain names words had left old new fault.OutOfMemory
+IsRefusal names words had left old new (Fault fault.Read) = IsAskedInVain names words had left old new fault.Read
+IsRefusal names words had left old new (Fault fault.Write) = IsAskedInVain names words had left old new fault.Write
+IsRefusal names words had left old new NoNames = ⊥
+IsRefusal names words had left old new (BadNames number) = ⊥
+IsRefusal names words had left old new (Fault fault.TooLong) = IsAskedInVain names words had left old new fault.TooLong
 
 -- The status: 0 good, 1 not good, 2 refused (own).
 abbrev pub status_of : Result Bool Refusal → ℕ
@@ -61,8 +74,9 @@ status_of (Ok true) = 0
 status_of (Ok false) = 1
 status_of (Err refusal) = 2
 
--- What a run for these words gives, what the reader had before and after, and what the writer held (own).
-abbrev pub Gave : List Text → Option (List ℕ) → Option (List ℕ) → Option (List ℕ) → Option (List ℕ) → Result Bool Refusal → Type 0
-Gave words had left old new answer = MatchResult answer
-    (λ good. (request : Request) × Ask words request × IsAnswered request had left old new good)
-    (λ refusal. IsRefusal words had left old new refusal)
+-- What a run for these words gives, by these names, what the reader had before and after, and what the writer held (own).
+abbrev pub Gave : Option (List NameParts) → List Text → Option (List ℕ) → Option (List ℕ) → Option (List ℕ) → Option (List ℕ)
+    → Result Bool Refusal → Type 0
+Gave names words had left old new answer = MatchResult answer
+    (λ good. (request : Request) × Ask words request × IsAnswered names request had left old new good)
+    (λ refusal. IsRefusal names words had left old new refusal)

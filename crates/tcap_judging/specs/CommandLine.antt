@@ -1,28 +1,37 @@
 -- The words of the command, as `clap` takes them: what they ask for.
-use Rattle.std.specs.Prelude.{◌≡◌, ℕ, Bool, true, false, List, [], Option, Some, None, codes, bytes_eq, if◌then◌else◌}
+use Rattle.std.specs.Prelude.{◌≡◌, ◌≢◌, ◌⊎◌, ◌&&◌, ◌||◌, Bool, true, false, List, [], Option, Some, None, codes, bytes_eq, is_some, if◌then◌else◌}
 use Rattle.clap.specs.Words.{App, Rule, Row, Text, new_app, new_rule, with_rule, fault_of, first_of}
 use Rattle.clap.specs.Simple.{matches_of}
-use Rattle.clap.specs.declared.builder.ArgAction.TheVariants.{SetTrue}
-use Rattle.tcap_judging.specs.declared.form.Form.{Form}
-use Rattle.tcap_judging.specs.declared.form.Form.TheVariants as form
+use Rattle.clap.specs.declared.builder.ArgAction.TheVariants.{Set, SetTrue}
+use Rattle.tcap_judging.specs.declared.form.Layout.{Layout}
+use Rattle.tcap_judging.specs.declared.form.Layout.TheVariants as layout
 use Rattle.tcap_judging.specs.declared.request.Request.{Request}
-use Rattle.tcap_judging.specs.declared.request.Request.TheVariants.{Help, Version, Lines, Stream}
+use Rattle.tcap_judging.specs.declared.request.Request.TheVariants.{Help, Version, Lines, Stream, Resync}
 
 -- An option without a value: `--` and its name (own).
 abbrev pub option_rule : Text → Rule
 option_rule name = record (new_rule name) { long = Some name; action = Some SetTrue }
 
+-- The option with the file of names (own).
+abbrev pub names_rule : Rule
+names_rule = record (new_rule (codes "names")) { long = Some (codes "names"); action = Some Set }
+
 -- The command without options; `--help` is one of its own (own).
 abbrev pub bare_app : App
-bare_app = record (new_app (codes "tcap_judge")) { top = record (new_app (codes "tcap_judge")).top { disable_help_flag = true; no_binary_name = true } }
+bare_app = record (new_app (codes "tcap_judge")) {
+  top = record (new_app (codes "tcap_judge")).top
+      { disable_help_flag = true; no_binary_name = true };
+}
 
--- The command with the options that say what it reads (own).
+-- The command with the first of its options (own).
 abbrev pub reading_app : App
-reading_app = with_rule (with_rule (with_rule bare_app (option_rule (codes "help"))) (option_rule (codes "version"))) (option_rule (codes "stream"))
+reading_app = with_rule (with_rule (with_rule bare_app (option_rule (codes "help"))) (option_rule (codes "version")))
+    (option_rule (codes "stream"))
 
 -- The command with its options (own).
 unfoldable pub judge_app : App
-judge_app = with_rule (with_rule reading_app (option_rule (codes "explain"))) (option_rule (codes "json"))
+judge_app = with_rule (with_rule (with_rule (with_rule reading_app (option_rule (codes "resync")))
+    (option_rule (codes "explain"))) (option_rule (codes "json"))) names_rule
 
 -- Whether the text of an option says that it was given (own).
 abbrev pub is_true_text : Option Text → Bool
@@ -34,20 +43,39 @@ abbrev pub is_set : Text → List Row → Bool
 is_set name rows = is_true_text (first_of name rows)
 
 -- How the options that were given ask to print: in JSON, or else with a mark (own).
-abbrev pub form_by : List Row → Form
-form_by rows =
-    if is_set (codes "json") rows then form.Json
-    else if is_set (codes "explain") rows then form.Marked
-    else form.Plain
+abbrev pub layout_by : List Row → Layout
+layout_by rows =
+    if is_set (codes "json") rows then layout.Json
+    else if is_set (codes "explain") rows then layout.Marked
+    else layout.Plain
 
--- What the options that were given ask for: help goes first, and then the version (own).
+-- What the options that were given ask for: help goes first, then the version, then a stream that goes on behind its
+-- faults (own).
 abbrev pub request_by : List Row → Request
 request_by rows =
     if is_set (codes "help") rows then Help
     else if is_set (codes "version") rows then Version
-    else if is_set (codes "stream") rows then Stream (form_by rows)
-    else Lines (form_by rows)
+    else if is_set (codes "resync") rows then Resync (layout_by rows)
+    else if is_set (codes "stream") rows then Stream (layout_by rows)
+    else Lines (layout_by rows)
 
--- `clap` refuses nothing in the words, and this is what they ask for (own).
+-- The file of names that the options tell: none for help or the version (own).
+abbrev pub names_by : List Row → Option Text
+names_by rows = if is_set (codes "help") rows || is_set (codes "version") rows then None else first_of (codes "names") rows
+
+-- The options ask for names in JSON, which has none (own).
+abbrev pub is_mixed : List Row → Bool
+is_mixed rows = is_set (codes "json") rows && is_some (names_by rows)
+
+-- `clap` refuses nothing in the words, they ask for no names in JSON, and this is what they ask for (own).
 abbrev pub Ask : List Text → Request → Type 0
-Ask words request = (fault_of judge_app words ≡ []) × (request ≡ request_by (matches_of judge_app words))
+Ask words request = (fault_of judge_app words ≡ []) × (is_mixed (matches_of judge_app words) ≡ false)
+    × (request ≡ request_by (matches_of judge_app words))
+
+-- This is the file of names that the words tell (own).
+abbrev pub AskNames : List Text → Option Text → Type 0
+AskNames words names = names ≡ names_by (matches_of judge_app words)
+
+-- `clap` refuses something in the words, or they ask for names in JSON (own).
+abbrev pub AskNothing : List Text → Type 0
+AskNothing words = (fault_of judge_app words ≢ []) ⊎ (is_mixed (matches_of judge_app words) ≡ true)

@@ -13,10 +13,13 @@ pub data Entry : Type 0 where
   message : (offset : ℕ) (octets : List ℕ) → Entry
   -- octets of a stream at which no message is, by the offset of the first
   broken : (offset : ℕ) (octets : List ℕ) → Entry
+  -- octets of a stream that are passed over behind a fault, by the offset of the first, and how many they are
+  passed : (offset count : ℕ) → Entry
 
 -- Behind octets of a stream at which no message is, no more is read: the last of the entries is such (own).
 abbrev pub IsBroken : List Entry → Type 0
-IsBroken entries = (before : List Entry) × (offset : ℕ) × (octets : List ℕ) × (entries ≡ before ++ (broken offset octets ∷ []))
+IsBroken entries = (before : List Entry) × (offset : ℕ) × (octets : List ℕ)
+    × (entries ≡ before ++ (broken offset octets ∷ []))
 
 -- Lines with their numbers, of which the first has this one (own).
 abbrev pub numbered : ℕ → List (List ℕ) → List Entry

@@ -22,11 +22,13 @@ json_verdict words = codes ",\"verdict\":\"" ++ (words ++ codes "\"")
 
 -- The place of a fault, and the first octet of its element (own).
 abbrev pub json_place : Explained → List ℕ
-json_place found = codes ",\"good\":false,\"place\":" ++ (decimal found.place ++ (codes ",\"element\":" ++ decimal found.element))
+json_place found = codes ",\"good\":false,\"place\":" ++
+    (decimal found.place ++ (codes ",\"element\":" ++ decimal found.element))
 
 -- What was expected there, and what was found (own).
 abbrev pub json_rule : List ℕ → Explained → List ℕ
-json_rule octets found = codes ",\"expected\":\"" ++ (wanted_words octets found found.rule ++ (codes "\",\"found\":\"" ++ (found_words octets found.place found.rule ++ codes "\"}\n")))
+json_rule octets found = codes ",\"expected\":\"" ++ (wanted_words octets found found.rule
+    ++ (codes "\",\"found\":\"" ++ (found_words octets found.place found.rule ++ codes "\"}\n")))
 
 -- Whether a message is good, and where it isn't the place of its fault, the first octet of its element, what was
 -- expected and what was found: the last members (own).
@@ -36,8 +38,15 @@ json_fault octets (Some found) = json_place found ++ json_rule octets found
 
 -- The object of a message (own).
 abbrev pub json_text : Label → List ℕ → List ℕ
-json_text label octets = json_label label ++ (json_verdict (verdict_words (verdict_of octets)) ++ json_fault octets (explained_at octets))
+json_text label octets = json_label label ++ (json_verdict (verdict_words (verdict_of octets))
+    ++ json_fault octets (explained_at octets))
 
 -- The object of a line that is neither blank nor a message (own).
 abbrev pub json_bad_text : ℕ → BadLine → List ℕ
-json_bad_text number why = codes "{\"line\":" ++ (decimal number ++ (codes ",\"bad\":\"" ++ (bad_words why ++ codes "\"}\n")))
+json_bad_text number why = codes "{\"line\":" ++ (decimal number
+    ++ (codes ",\"bad\":\"" ++ (bad_words why ++ codes "\"}\n")))
+
+-- The object of octets of a stream that are passed over (own).
+abbrev pub json_passed_text : ℕ → ℕ → List ℕ
+json_passed_text first count = codes "{\"offset\":" ++ (decimal first
+    ++ (codes ",\"passed\":" ++ (decimal count ++ codes "}\n")))

@@ -3,6 +3,7 @@ pub mod Command
 pub mod CommandLine
 pub mod Entry
 pub mod EntryText
+pub mod Form
 pub mod HelpText
 pub mod JsonText
 pub mod Label
@@ -11,6 +12,11 @@ pub mod LineSteps
 pub mod LineViews
 pub mod Lines
 pub mod MarkedText
+pub mod MessageNames
+pub mod NameViews
+pub mod Names
 pub mod Refusal
+pub mod Resync
+pub mod ResyncSteps
 pub mod Run
 pub mod StreamSteps

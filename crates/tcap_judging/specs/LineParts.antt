@@ -1,5 +1,5 @@
 -- What stands in a line: nothing, a message in hexadecimal that may have a name, or neither.
-use Rattle.std.specs.Prelude.{ℕ, ◌+◌, ◌-◌, Bool, true, false, List, [], ◌∷◌, ◌++◌, length, take, drop, Option, Some, None, not, nat_le, nat_lt, ◌==◌, ◌||◌, ◌&&◌, if◌then◌else◌, slice_index}
+use Rattle.std.specs.Prelude.{ℕ, ◌+◌, ◌-◌, Bool, List, length, take, drop, Option, Some, None, not, nat_le, nat_lt, ◌==◌, ◌||◌, ◌&&◌, if◌then◌else◌, slice_index}
 use Rattle.std.specs.List.{list_any, filter, position_or_len}
 use Rattle.hex.specs.Hex.{is_hex_digit}
 use Rattle.tcap_words.specs.Spelling.{spelled_by}
@@ -85,16 +85,20 @@ column line rest place = length line - length rest + place + 1
 -- blank or a colon, and a digit has to be there (own).
 abbrev pub hex_parts : List ℕ → Option (List ℕ) → List ℕ → LineParts
 hex_parts line name rest =
-    if nat_lt (position_or_len is_foreign rest) (length rest) then bad_line (bad.Digit (column line rest (position_or_len is_foreign rest)) (slice_index rest (position_or_len is_foreign rest)))
+    if nat_lt (position_or_len is_foreign rest) (length rest) then bad_line
+    (bad.Digit (column line rest (position_or_len is_foreign rest))
+    (slice_index rest (position_or_len is_foreign rest)))
     else if list_any is_hex_digit rest then hex name rest
     else bad_line bad.NoDigits
 
--- The parts of a line by the name that its first word is: each octet of a name has to be one that a name may have; the hexadecimal
--- stands behind the name, or begins with the first word (own).
+-- The parts of a line by the name that its first word is: each octet of a name has to be one that a name may have;
+-- the hexadecimal stands behind the name, or begins with the first word (own).
 abbrev pub named_parts : List ℕ → List ℕ → Option (List ℕ) → LineParts
 named_parts line text None = hex_parts line None text
 named_parts line text (Some name) =
-    if nat_lt (position_or_len is_unnamed name) (length name) then bad_line (bad.Name (column line text (position_or_len is_unnamed name)) (slice_index name (position_or_len is_unnamed name)))
+    if nat_lt (position_or_len is_unnamed name) (length name) then bad_line
+    (bad.Name (column line text (position_or_len is_unnamed name))
+    (slice_index name (position_or_len is_unnamed name)))
     else hex_parts line (Some name) (behind_word text)
 
 -- The parts of a line from its first octet on that is no blank (own).

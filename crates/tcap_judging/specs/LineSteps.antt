@@ -8,11 +8,12 @@ use Rattle.tcap_judging.specs.Entry.{Entry, line, numbered}
 use Rattle.tcap_judging.specs.EntryText.{entry_text, entries_text, are_good}
 use Rattle.tcap_judging.specs.Lines.{IsInLines}
 use Rattle.tcap_judging.specs.LineViews.{IsUnderWay}
-use Rattle.tcap_judging.specs.declared.form.Form.{Form}
+use Rattle.tcap_judging.specs.Form.{Form}
 
 -- The octets that follow so much of a line make these lines whole, which have their numbers from this one on, and
 -- leave so much of a line (own).
-pub record Takes (begun octets : List ℕ) (number : ℕ) (kept : List ℕ) (is_long : Bool) (next : ℕ) (entries : List Entry) : Type 0 where
+pub record Takes (begun octets : List ℕ) (number : ℕ) (kept : List ℕ) (is_long : Bool) (next : ℕ)
+    (entries : List Entry) : Type 0 where
   pub lines : List (List ℕ)
   pub left : List ℕ
   pub is_in_lines : IsInLines lines left (begun ++ octets)
@@ -21,14 +22,16 @@ pub record Takes (begun octets : List ℕ) (number : ℕ) (kept : List ℕ) (is_
   pub are_entries : entries ≡ numbered number lines
 
 -- The text of the lines that the octets make whole was added, and this tells whether all are good (own).
-pub record Adds (form : Form) (begun octets : List ℕ) (number : ℕ) (kept : List ℕ) (is_long : Bool) (next : ℕ) (old new : List ℕ) (good : Bool) : Type 0 where
+pub record Adds (form : Form) (begun octets : List ℕ) (number : ℕ) (kept : List ℕ) (is_long : Bool) (next : ℕ)
+    (old new : List ℕ) (good : Bool) : Type 0 where
   pub entries : List Entry
   pub takes : Takes begun octets number kept is_long next entries
   pub added : new ≡ old ++ entries_text form entries
   pub verdict : good ≡ are_good entries
 
 -- The same, written (own).
-pub record Writes (form : Form) (begun octets : List ℕ) (number : ℕ) (kept : List ℕ) (is_long : Bool) (next : ℕ) (old new : Option (List ℕ)) (good : Bool) : Type 0 where
+pub record Writes (form : Form) (begun octets : List ℕ) (number : ℕ) (kept : List ℕ) (is_long : Bool) (next : ℕ)
+    (old new : Option (List ℕ)) (good : Bool) : Type 0 where
   pub entries : List Entry
   pub takes : Takes begun octets number kept is_long next entries
   pub written : Appends old new (entries_text form entries)

@@ -6,6 +6,7 @@ ghost use Rattle.tcap_judging.specs.EntryText.{entry_text, is_good_entry};
 ghost use Rattle.tcap_judging.specs.Lines.{is_one_line, line_feed};
 ghost use Rattle.tcap_judging.specs.LineViews.{IsUnderWay};
 ghost use Rattle.tcap_judging.specs.LineSteps.{Adds};
+ghost use Rattle.tcap_judging.specs.NameViews.{form_view};
 
 use crate::form::Form;
 use crate::under_way::{add_kept, keep};
@@ -21,7 +22,7 @@ pub(crate) struct Begun<A: Allocator + Copy> {
 }
 
 /// The octets before the first line feed, and those behind it; None where there is none.
-fn first_line(octets: &[u8]) -> Option<(&[u8], &[u8])>
+pub(crate) fn first_line(octets: &[u8]) -> Option<(&[u8], &[u8])>
     ensures cut { MatchOption result (is_one_line octets.now ≡ true) (λ p. (octets.now
         ≡ p.0.now ++ (line_feed ∷ p.1.now)) × (is_one_line p.0.now ≡ true)) }
     ensures shorter { IfSome result (λ p. length p.1.now < length octets.now) }
@@ -33,17 +34,19 @@ fn first_line(octets: &[u8]) -> Option<(&[u8], &[u8])>
 /// Adds what is printed for the line that ends behind these octets, and begins the next. Tells whether it is good.
 fn end_line<A: Allocator + Copy>(
     alloc: A,
-    form: Form,
+    form: Form<'_>,
     text: &mut String<A>,
     begun: &mut Begun<A>,
     octets: &[u8],
 ) -> Result<bool, OutOfMemory>
     requires { begun.old.number + 1 < 2 ^ 64 }
     ensures text { (before : List ℕ) → IsUnderWay before begun.old.kept.items begun.old.is_long
-        → OnOk result (string_bytes text.new ≡ string_bytes text.old ++ entry_text form (line begun.old.number (before ++ octets.now))) }
+        → OnOk result (string_bytes text.new ≡ string_bytes text.old
+        ++ entry_text (form_view form.entry) (line begun.old.number (before ++ octets.now))) }
     ensures good { (before : List ℕ) → IsUnderWay before begun.old.kept.items begun.old.is_long
         → IfOk result (λ good. good ≡ is_good_entry (line begun.old.number (before ++ octets.now))) }
-    ensures next { OnOk result ((begun.new.kept.items ≡ []) × (begun.new.is_long ≡ false) × (begun.new.number ≡ begun.old.number + 1)) }
+    ensures next { OnOk result ((begun.new.kept.items ≡ []) × (begun.new.is_long ≡ false)
+        × (begun.new.number ≡ begun.old.number + 1)) }
 {
     let is_long = keep(&mut begun.kept, begun.is_long, octets)?;
     let good = add_kept(
@@ -64,14 +67,15 @@ fn end_line<A: Allocator + Copy>(
 /// whether all of these lines are good.
 pub(crate) fn take_piece<A: Allocator + Copy>(
     alloc: A,
-    form: Form,
+    form: Form<'_>,
     text: &mut String<A>,
     begun: &mut Begun<A>,
     piece: &[u8],
 ) -> Result<bool, OutOfMemory>
     requires { begun.old.number + length piece.now < 2 ^ 64 }
     ensures adds { (before : List ℕ) → IsUnderWay before begun.old.kept.items begun.old.is_long
-        → IfOk result (λ good. Adds form before piece.now begun.old.number begun.new.kept.items begun.new.is_long begun.new.number
+        → IfOk result (λ good. Adds (form_view form.entry) before piece.now begun.old.number begun.new.kept.items begun.new.is_long
+        begun.new.number
         (string_bytes text.old) (string_bytes text.new) good) }
     ensures number { OnOk result (begun.new.number ≤ begun.old.number + length piece.now) }
 {

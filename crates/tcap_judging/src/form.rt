@@ -1,12 +1,23 @@
 //! How a run prints what it tells.
 
-/// How a run prints what it tells.
+use crate::name_list::Named;
+
+/// How the lines of a run look.
 #[derive(Clone, Copy, Debug, PartialEq, Eq)]
-pub enum Form {
+pub enum Layout {
     /// A line for each message.
     Plain,
     /// Plain, and below a faulty message its octets about the place of the fault, with a mark.
     Marked,
-    /// An object of JSON in each line.
+    /// An object of JSON in each line, which has no names.
     Json,
+}
+
+/// How a run prints what it tells.
+#[derive(Clone, Copy, Debug)]
+pub struct Form<'a> {
+    /// How its lines look.
+    pub layout: Layout,
+    /// By which list it prints what each message names, behind the verdict; None where it doesn't.
+    pub names: Option<&'a [Named<'a>]>,
 }

@@ -4,7 +4,7 @@ ghost use Rattle.std.specs.Prelude.{◌≡◌, ◌++◌, IfOk, OnOk, Some, strin
 ghost use Rattle.std.specs.Fmt.{decimal};
 ghost use Rattle.tcap_words.specs.Show.{show_is_good};
 ghost use Rattle.tcap_words.specs.Verdict.{verdict_words};
-ghost use Rattle.tcap_judging.specs.JsonText.{json_label, json_verdict, json_place, json_rule, json_fault, json_text, json_bad_text};
+ghost use Rattle.tcap_judging.specs.JsonText.{json_label, json_verdict, json_place, json_rule, json_fault, json_text, json_bad_text, json_passed_text};
 ghost use Rattle.tcap_judging.specs.LineViews.{label_view};
 
 use crate::bad_line::{BadLine, add_bad};
@@ -52,7 +52,8 @@ fn add_verdict_between<A: Allocator + Copy>(
     verdict: Verdict,
     behind: &str,
 ) -> Result<(), OutOfMemory>
-    ensures { OnOk result (string_bytes text.new ≡ string_bytes text.old ++ (name.now ++ (verdict_words verdict ++ behind.now))) }
+    ensures { OnOk result (string_bytes text.new ≡ string_bytes text.old
+        ++ (name.now ++ (verdict_words verdict ++ behind.now))) }
 {
     text.push_str(name)?;
     add_verdict(text, verdict)?;
@@ -77,7 +78,8 @@ fn add_numbers<A: Allocator + Copy>(
     second: &str,
     other: u64,
 ) -> Result<(), OutOfMemory>
-    ensures { OnOk result (string_bytes text.new ≡ string_bytes text.old ++ (first.now ++ (decimal one ++ (second.now ++ decimal other)))) }
+    ensures { OnOk result (string_bytes text.new ≡ string_bytes text.old
+        ++ (first.now ++ (decimal one ++ (second.now ++ decimal other)))) }
 {
     add_number(text, first, one)?;
     add_number(text, second, other)
@@ -144,7 +146,8 @@ pub(crate) fn add_object<A: Allocator + Copy>(
     called: Label<'_>,
     octets: &[u8],
 ) -> Result<bool, OutOfMemory>
-    ensures text { OnOk result (string_bytes text.new ≡ string_bytes text.old ++ json_text (label_view called.entry) octets.now) }
+    ensures text { OnOk result (string_bytes text.new ≡ string_bytes text.old
+        ++ json_text (label_view called.entry) octets.now) }
     ensures good { IfOk result (λ good. good ≡ show_is_good octets.now) }
 {
     let verdict = verdict_on(octets);
@@ -166,4 +169,16 @@ pub(crate) fn add_bad_object<A: Allocator + Copy>(
     text.push_str(",\"bad\":\"")?;
     add_bad(text, why)?;
     Ok(text.push_str("\"}\n")?)
+}
+
+/// Adds the object of octets of a stream that are passed over: the offset of the first, and how many they are.
+pub(crate) fn add_passed_object<A: Allocator + Copy>(
+    text: &mut String<A>,
+    first: u64,
+    count: u64,
+) -> Result<(), OutOfMemory>
+    ensures { OnOk result (string_bytes text.new ≡ string_bytes text.old ++ json_passed_text first count) }
+{
+    add_numbers(text, "{\"offset\":", first, ",\"passed\":", count)?;
+    Ok(text.push_str("}\n")?)
 }

@@ -55,7 +55,7 @@ fn is_unnamed(octet: u8) -> bool
 }
 
 /// How many blanks stand at the front.
-fn blank_count(octets: &[u8]) -> usize
+pub(crate) fn blank_count(octets: &[u8]) -> usize
     ensures value { result ≡ position_or_len is_dark octets.now }
     ensures within { result ≤ length octets.now }
 {
@@ -64,7 +64,7 @@ fn blank_count(octets: &[u8]) -> usize
 }
 
 /// How many octets stand before the first blank.
-fn word_len(octets: &[u8]) -> usize
+pub(crate) fn word_len(octets: &[u8]) -> usize
     ensures value { result ≡ position_or_len is_blank octets.now }
     ensures within { result ≤ length octets.now }
 {
@@ -73,7 +73,7 @@ fn word_len(octets: &[u8]) -> usize
 }
 
 /// How many octets stand before the first that no name has.
-fn name_len(octets: &[u8]) -> usize
+pub(crate) fn name_len(octets: &[u8]) -> usize
     ensures value { result ≡ position_or_len is_unnamed octets.now }
     ensures within { result ≤ length octets.now }
 {
@@ -135,7 +135,7 @@ fn hex_parts<'l>(line: &'l [u8], name: Option<&'l str>, rest: &'l [u8]) -> LineP
 }
 
 /// A name as text: a name may have each of its octets.
-fn name_text(name: &[u8]) -> &str
+pub(crate) fn name_text(name: &[u8]) -> &str
     requires { position_or_len is_unnamed name.now ≡ length name.now }
     ensures { result.now ≡ name.now }
 {

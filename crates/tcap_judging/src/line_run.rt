@@ -7,6 +7,7 @@ ghost use Rattle.tcap_judging.specs.EntryText.{entry_text, is_good_entry};
 ghost use Rattle.tcap_judging.specs.LineViews.{IsUnderWay, IsWithin};
 ghost use Rattle.tcap_judging.specs.LineSteps.{Writes, IsUntaken, IsUnended};
 ghost use Rattle.tcap_judging.specs.Run.{IsJudged, IsUnjudged};
+ghost use Rattle.tcap_judging.specs.NameViews.{form_view};
 
 use crate::cut::{Begun, take_piece};
 use crate::fault::JudgingFault;
@@ -25,16 +26,17 @@ pub(crate) const PIECE: usize = 4_096;
 /// lines are good.
 fn write_piece<A: Allocator + Copy, W: Write>(
     alloc: A,
-    form: Form,
+    form: Form<'_>,
     begun: &mut Begun<A>,
     piece: &[u8],
     writer: &mut W,
 ) -> Result<bool, JudgingFault>
     requires { begun.old.number + length piece.now < 2 ^ 64 }
     ensures writes { (before : List ℕ) → IsUnderWay before begun.old.kept.items begun.old.is_long → MatchResult result
-        (λ good. Writes form before piece.now begun.old.number begun.new.kept.items begun.new.is_long begun.new.number
+        (λ good. Writes (form_view form.entry) before piece.now begun.old.number begun.new.kept.items begun.new.is_long begun.new.number
         (W.contents writer.old) (W.contents writer.new) good)
-        (λ fault. IsUntaken form before piece.now begun.old.number (W.contents writer.old) (W.contents writer.new) fault) }
+        (λ fault. IsUntaken (form_view form.entry) before piece.now begun.old.number (W.contents writer.old) (W.contents writer.new)
+        fault) }
     ensures number { OnOk result (begun.new.number ≤ begun.old.number + length piece.now) }
 {
     let mut text = String::new(alloc);
@@ -47,16 +49,17 @@ fn write_piece<A: Allocator + Copy, W: Write>(
 /// known.
 fn end_input<A: Allocator + Copy, W: Write>(
     alloc: A,
-    form: Form,
+    form: Form<'_>,
     begun: &Begun<A>,
     good: bool,
     writer: &mut W,
 ) -> Result<bool, JudgingFault>
     requires { IsWithin begun.now.kept.items begun.now.is_long }
     ensures { (before : List ℕ) → IsUnderWay before begun.now.kept.items begun.now.is_long → MatchResult result
-        (λ ends. Appends (W.contents writer.old) (W.contents writer.new) (entry_text form (line begun.now.number before))
+        (λ ends. Appends (W.contents writer.old) (W.contents writer.new)
+        (entry_text (form_view form.entry) (line begun.now.number before))
         × (ends ≡ (good && is_good_entry (line begun.now.number before))))
-        (λ fault. IsUnended form before begun.now.number (W.contents writer.old) (W.contents writer.new) fault) }
+        (λ fault. IsUnended (form_view form.entry) before begun.now.number (W.contents writer.old) (W.contents writer.new) fault) }
 {
     let mut text = String::new(alloc);
     let kept = begun.kept.as_slice();
@@ -74,7 +77,8 @@ fn end_input<A: Allocator + Copy, W: Write>(
 /// ```rust
 /// let mut lines: &[u8] = b"a: 62 03 48 01 07\n6203490107\n";
 /// let mut out = Vec::new(alloc);
-/// assert_eq!(rt; judge_lines(alloc, Form::Plain, &mut lines, &mut out), Ok(false));
+/// let form = Form { layout: Layout::Plain, names: None };
+/// assert_eq!(rt; judge_lines(alloc, form, &mut lines, &mut out), Ok(false));
 /// assert_eq!(rt; out.as_slice(), b"a good\n2 fault incorrect place 2 element 2: expected the originating transaction identifier 0x48, found 0x49\n".as_slice());
 /// ```
 ///
@@ -84,13 +88,15 @@ fn end_input<A: Allocator + Copy, W: Write>(
 /// `OutOfMemory` where memory was refused; `Write` where a write failed.
 pub fn judge_lines<A: Allocator + Copy, R: Read, W: Write>(
     alloc: A,
-    form: Form,
+    form: Form<'_>,
     reader: &mut R,
     writer: &mut W,
 ) -> Result<bool, JudgingFault>
     ensures { MatchResult result
-        (λ good. IsJudged form LinesTell (R.remaining reader.old) (R.remaining reader.new) (W.contents writer.old) (W.contents writer.new) good)
-        (λ fault. IsUnjudged form LinesTell (R.remaining reader.old) (R.remaining reader.new) (W.contents writer.old) (W.contents writer.new) fault) }
+        (λ good. IsJudged (form_view form.entry) LinesTell (R.remaining reader.old) (R.remaining reader.new) (W.contents writer.old)
+        (W.contents writer.new) good)
+        (λ fault. IsUnjudged (form_view form.entry) LinesTell (R.remaining reader.old) (R.remaining reader.new) (W.contents writer.old)
+        (W.contents writer.new) fault) }
 {
     let mut begun = Begun {
         kept: Vec::new(alloc),

@@ -7,9 +7,10 @@ ghost use Rattle.tcap_judging.specs.Entry.{line};
 ghost use Rattle.tcap_judging.specs.EntryText.{plain_bad_text, bad_text, hex_text, entry_text, is_good_entry, is_good_hex};
 ghost use Rattle.tcap_judging.specs.LineParts.{line_limit, octets_of};
 ghost use Rattle.tcap_judging.specs.LineViews.{label_view};
+ghost use Rattle.tcap_judging.specs.NameViews.{form_view};
 
 use crate::bad_line::{BadLine, add_bad};
-use crate::form::Form;
+use crate::form::{Form, Layout};
 use crate::json_text::add_bad_object;
 use crate::label::{Label, label_of};
 use crate::line_parts::{LineParts, is_digit, parts_within};
@@ -35,16 +36,16 @@ fn add_plain_bad<A: Allocator + Copy>(
 
 /// Adds what is printed for such a line.
 pub(crate) fn add_bad_line<A: Allocator + Copy>(
-    form: Form,
+    layout: Layout,
     text: &mut String<A>,
     number: u64,
     why: BadLine,
 ) -> Result<(), OutOfMemory>
-    ensures { OnOk result (string_bytes text.new ≡ string_bytes text.old ++ bad_text form number why) }
+    ensures { OnOk result (string_bytes text.new ≡ string_bytes text.old ++ bad_text layout number why) }
 {
-    match form {
-        Form::Plain | Form::Marked => add_plain_bad(text, number, why),
-        Form::Json => add_bad_object(text, number, why),
+    match layout {
+        Layout::Plain | Layout::Marked => add_plain_bad(text, number, why),
+        Layout::Json => add_bad_object(text, number, why),
     }
 }
 
@@ -67,19 +68,20 @@ fn octets_of<A: Allocator + Copy>(alloc: A, hex: &[u8]) -> Result<Option<Vec<u8,
 /// Adds what is printed for hexadecimal, and tells whether it is a good message.
 fn add_hex_line<A: Allocator + Copy>(
     alloc: A,
-    form: Form,
+    form: Form<'_>,
     text: &mut String<A>,
     number: u64,
     called: Label<'_>,
     hex: &[u8],
 ) -> Result<bool, OutOfMemory>
-    ensures text { OnOk result (string_bytes text.new ≡ string_bytes text.old ++ hex_text form number (label_view called.entry) (octets_of hex.now)) }
+    ensures text { OnOk result (string_bytes text.new ≡ string_bytes text.old
+        ++ hex_text (form_view form.entry) number (label_view called.entry) (octets_of hex.now)) }
     ensures good { IfOk result (λ good. good ≡ is_good_hex (octets_of hex.now)) }
 {
     match octets_of(alloc, hex)? {
         Some(octets) => add_message(form, text, called, octets.as_slice()),
         None => {
-            add_bad_line(form, text, number, BadLine::OddDigits)?;
+            add_bad_line(form.layout, text, number, BadLine::OddDigits)?;
             Ok(false)
         }
     }
@@ -88,13 +90,14 @@ fn add_hex_line<A: Allocator + Copy>(
 /// Adds what is printed for a line of this number that isn't too long, and tells whether it is good.
 pub(crate) fn add_line<A: Allocator + Copy>(
     alloc: A,
-    form: Form,
+    form: Form<'_>,
     text: &mut String<A>,
     number: u64,
     octets: &[u8],
 ) -> Result<bool, OutOfMemory>
     requires { length octets.now ≤ line_limit }
-    ensures text { OnOk result (string_bytes text.new ≡ string_bytes text.old ++ entry_text form (line number octets.now)) }
+    ensures text { OnOk result (string_bytes text.new ≡ string_bytes text.old
+        ++ entry_text (form_view form.entry) (line number octets.now)) }
     ensures good { IfOk result (λ good. good ≡ is_good_entry (line number octets.now)) }
 {
     match parts_within(octets) {
@@ -103,7 +106,7 @@ pub(crate) fn add_line<A: Allocator + Copy>(
             add_hex_line(alloc, form, text, number, label_of(number, name), hex)
         }
         LineParts::Bad(why) => {
-            add_bad_line(form, text, number, why)?;
+            add_bad_line(form.layout, text, number, why)?;
             Ok(false)
         }
     }

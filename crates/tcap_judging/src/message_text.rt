@@ -1,17 +1,20 @@
 //! The line of a message.
 
-ghost use Rattle.std.specs.Prelude.{◌≡◌, ◌++◌, IfOk, OnOk, string_bytes};
+ghost use Rattle.std.specs.Prelude.{◌≡◌, ◌++◌, IfOk, OnOk, map, option_copied, option_map, string_bytes};
 ghost use Rattle.tcap_explain.specs.Explaining.{explained_at};
 ghost use Rattle.tcap_words.specs.Show.{show_is_good};
 ghost use Rattle.tcap_words.specs.Verdict.{verdict_of, verdict_words};
-ghost use Rattle.tcap_judging.specs.EntryText.{fault_words, message_words, plain_text, message_text};
+ghost use Rattle.tcap_judging.specs.EntryText.{fault_words, message_words, named_words, plain_text, message_text};
 ghost use Rattle.tcap_judging.specs.MarkedText.{marked_text};
 ghost use Rattle.tcap_judging.specs.LineViews.{label_view};
+ghost use Rattle.tcap_judging.specs.NameViews.{form_view, named_view};
 
-use crate::form::Form;
+use crate::form::{Form, Layout};
 use crate::json_text::add_object;
 use crate::label::{Label, add_label};
 use crate::marked_text::add_mark;
+use crate::message_names::add_names;
+use crate::name_list::Named;
 use ber_core::OutOfMemory;
 use std::alloc::Allocator;
 use tcap_explain::{add_explained, explain};
@@ -53,7 +56,8 @@ fn add_fault<A: Allocator + Copy>(
     good: bool,
 ) -> Result<(), OutOfMemory>
     requires { good ≡ show_is_good octets.now }
-    ensures { OnOk result (string_bytes text.new ≡ string_bytes text.old ++ fault_words octets.now (explained_at octets.now)) }
+    ensures { OnOk result (string_bytes text.new ≡ string_bytes text.old
+        ++ fault_words octets.now (explained_at octets.now)) }
 {
     if good {
         return Ok(());
@@ -79,18 +83,36 @@ fn add_words<A: Allocator + Copy>(text: &mut String<A>, octets: &[u8]) -> Result
     Ok(good)
 }
 
+/// Adds what a message names by a list, if there is one.
+fn add_named<A: Allocator + Copy>(
+    text: &mut String<A>,
+    names: Option<&[Named<'_>]>,
+    octets: &[u8],
+) -> Result<(), OutOfMemory>
+    ensures { OnOk result (string_bytes text.new ≡ string_bytes text.old
+        ++ named_words (option_map (map named_view) (option_copied names.entry)) octets.now) }
+{
+    match names {
+        Some(names) => add_names(text, names, octets),
+        None => Ok(()),
+    }
+}
+
 /// Adds the line of a message, and tells whether it is good.
 fn add_plain<A: Allocator + Copy>(
     text: &mut String<A>,
+    names: Option<&[Named<'_>]>,
     called: Label<'_>,
     octets: &[u8],
 ) -> Result<bool, OutOfMemory>
-    ensures text { OnOk result (string_bytes text.new ≡ string_bytes text.old ++ plain_text (label_view called.entry) octets.now) }
+    ensures text { OnOk result (string_bytes text.new ≡ string_bytes text.old
+        ++ plain_text (option_map (map named_view) (option_copied names.entry)) (label_view called.entry) octets.now) }
     ensures good { IfOk result (λ good. good ≡ show_is_good octets.now) }
 {
     add_label(text, called)?;
     text.push_str(" ")?;
     let good = add_words(text, octets)?;
+    add_named(text, names, octets)?;
     text.push_str("\n")?;
     Ok(good)
 }
@@ -98,31 +120,34 @@ fn add_plain<A: Allocator + Copy>(
 /// Adds the line of a message, and below it the octets about the place of its fault, if it has one.
 fn add_marked<A: Allocator + Copy>(
     text: &mut String<A>,
+    names: Option<&[Named<'_>]>,
     called: Label<'_>,
     octets: &[u8],
 ) -> Result<bool, OutOfMemory>
     ensures text { OnOk result (string_bytes text.new ≡ string_bytes text.old
-        ++ (plain_text (label_view called.entry) octets.now ++ marked_text octets.now (explained_at octets.now))) }
+        ++ (plain_text (option_map (map named_view) (option_copied names.entry)) (label_view called.entry) octets.now
+        ++ marked_text octets.now (explained_at octets.now))) }
     ensures good { IfOk result (λ good. good ≡ show_is_good octets.now) }
 {
-    let good = add_plain(text, called, octets)?;
+    let good = add_plain(text, names, called, octets)?;
     add_mark(text, octets, explain(octets))?;
     Ok(good)
 }
 
 /// Adds what is printed for a message, and tells whether it is good.
 pub(crate) fn add_message<A: Allocator + Copy>(
-    form: Form,
+    form: Form<'_>,
     text: &mut String<A>,
     called: Label<'_>,
     octets: &[u8],
 ) -> Result<bool, OutOfMemory>
-    ensures text { OnOk result (string_bytes text.new ≡ string_bytes text.old ++ message_text form (label_view called.entry) octets.now) }
+    ensures text { OnOk result (string_bytes text.new ≡ string_bytes text.old
+        ++ message_text (form_view form.entry) (label_view called.entry) octets.now) }
     ensures good { IfOk result (λ good. good ≡ show_is_good octets.now) }
 {
-    match form {
-        Form::Plain => add_plain(text, called, octets),
-        Form::Marked => add_marked(text, called, octets),
-        Form::Json => add_object(text, called, octets),
+    match form.layout {
+        Layout::Plain => add_plain(text, form.names, called, octets),
+        Layout::Marked => add_marked(text, form.names, called, octets),
+        Layout::Json => add_object(text, called, octets),
     }
 }

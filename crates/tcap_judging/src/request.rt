@@ -1,6 +1,13 @@
 //! What the words of the command ask for.
 
-use crate::form::Form;
+use crate::form::Layout;
+
+/// What the words of the command ask for, and in which file the names are, if they are given.
+#[derive(Clone, Copy, Debug)]
+pub(crate) struct Asked<'a> {
+    pub(crate) request: Request,
+    pub(crate) names: Option<&'a str>,
+}
 
 /// What the words of the command ask for.
 #[derive(Clone, Copy, Debug, PartialEq, Eq)]
@@ -10,7 +17,9 @@ pub enum Request {
     /// `--version`: its name and version.
     Version,
     /// The verdicts on the lines of standard input.
-    Lines(Form),
+    Lines(Layout),
     /// `--stream`: the verdicts on the messages of the stream on standard input.
-    Stream(Form),
+    Stream(Layout),
+    /// `--resync`: the same, going on behind a fault.
+    Resync(Layout),
 }

@@ -5,6 +5,7 @@ ghost use Rattle.ber_core.specs.Stream.{cut_into, cut_of, rest_fault, with_messa
 ghost use Rattle.tcap_judging.specs.Entry.{broken_entries, judged_by};
 ghost use Rattle.tcap_judging.specs.EntryText.{entries_text, are_good};
 ghost use Rattle.tcap_judging.specs.StreamSteps.{AddsMessages, AddsOctets};
+ghost use Rattle.tcap_judging.specs.NameViews.{form_view};
 
 use crate::form::Form;
 use crate::label::Label;
@@ -32,7 +33,7 @@ pub(crate) struct Behind<A: Allocator + Copy> {
 }
 
 /// At most so many octets of the front.
-fn front(octets: &[u8], most: usize) -> &[u8]
+pub(crate) fn front(octets: &[u8], most: usize) -> &[u8]
     ensures { result.now ≡ take most octets.now }
 {
     if octets.len() > most {
@@ -43,7 +44,7 @@ fn front(octets: &[u8], most: usize) -> &[u8]
 }
 
 /// The fault that stands where no element is read at the front for this reason, if one does.
-fn fault_of(why: BerFault, rest: &[u8]) -> Option<FeedFault>
+pub(crate) fn fault_of(why: BerFault, rest: &[u8]) -> Option<FeedFault>
     ensures { result ≡ rest_fault why rest.now }
 {
     match why {
@@ -59,7 +60,8 @@ fn fault_of(why: BerFault, rest: &[u8]) -> Option<FeedFault>
 /// How many octets the first message has, or why there is none.
 fn first_len(octets: &[u8]) -> Result<usize, BerFault>
     ensures { MatchResult result
-        (λ count. (0 < count) × (count ≤ length octets.now) × (cut_of octets.now ≡ with_message (take count octets.now) (cut_of (drop count octets.now))))
+        (λ count. (0 < count) × (count ≤ length octets.now)
+        × (cut_of octets.now ≡ with_message (take count octets.now) (cut_of (drop count octets.now))))
         (λ why. cut_of octets.now ≡ cut_into [] octets.now (rest_fault why octets.now)) }
 {
     match read_element(front(octets, MAX_LENGTH)) {
@@ -69,9 +71,10 @@ fn first_len(octets: &[u8]) -> Result<usize, BerFault>
 }
 
 /// The first message, and what follows it, or why there is none.
-fn first_message(octets: &[u8]) -> Result<(&[u8], &[u8]), BerFault>
+pub(crate) fn first_message(octets: &[u8]) -> Result<(&[u8], &[u8]), BerFault>
     ensures { MatchResult result
-        (λ r. (0 < length r.0.now) × (length r.0.now + length r.1.now ≡ length octets.now) × (cut_of octets.now ≡ with_message r.0.now (cut_of r.1.now)))
+        (λ r. (0 < length r.0.now) × (length r.0.now + length r.1.now ≡ length octets.now)
+        × (cut_of octets.now ≡ with_message r.0.now (cut_of r.1.now)))
         (λ why. cut_of octets.now ≡ cut_into [] octets.now (rest_fault why octets.now)) }
 {
     match first_len(octets) {
@@ -81,14 +84,15 @@ fn first_message(octets: &[u8]) -> Result<(&[u8], &[u8]), BerFault>
 }
 
 /// Adds the line of each message that begins the octets, of which the first has this offset.
-fn add_messages<'a, A: Allocator + Copy>(
-    form: Form,
+pub(crate) fn add_messages<'a, A: Allocator + Copy>(
+    form: Form<'_>,
     text: &mut String<A>,
     offset: u64,
     octets: &'a [u8],
 ) -> Result<Cut<'a>, OutOfMemory>
     requires { offset + length octets.now < 2 ^ 64 }
-    ensures adds { IfOk result (λ cut. AddsMessages form octets.now offset cut.rest.now cut.offset cut.fault (string_bytes text.old) (string_bytes text.new) cut.good) }
+    ensures adds { IfOk result (λ cut. AddsMessages (form_view form.entry) octets.now offset cut.rest.now cut.offset cut.fault
+        (string_bytes text.old) (string_bytes text.new) cut.good) }
     ensures within { IfOk result (λ cut. cut.offset + length cut.rest.now ≡ offset + length octets.now) }
 {
     let mut good = true;
@@ -119,7 +123,7 @@ fn add_messages<'a, A: Allocator + Copy>(
 }
 
 /// How many of the octets behind the last message are judged, by the fault that stands there.
-fn judged_by(fault: FeedFault) -> usize
+pub(crate) fn judged_by(fault: FeedFault) -> usize
     ensures { result ≡ judged_by fault }
 {
     match fault {
@@ -130,13 +134,14 @@ fn judged_by(fault: FeedFault) -> usize
 
 /// Adds the line of the octets behind the last message where a fault stands there, and tells whether it is good.
 fn add_broken<A: Allocator + Copy>(
-    form: Form,
+    form: Form<'_>,
     text: &mut String<A>,
     offset: u64,
     rest: &[u8],
     fault: Option<FeedFault>,
 ) -> Result<bool, OutOfMemory>
-    ensures text { OnOk result (string_bytes text.new ≡ string_bytes text.old ++ entries_text form (broken_entries offset rest.now fault)) }
+    ensures text { OnOk result (string_bytes text.new ≡ string_bytes text.old
+        ++ entries_text (form_view form.entry) (broken_entries offset rest.now fault)) }
     ensures good { IfOk result (λ good. good ≡ are_good (broken_entries offset rest.now fault)) }
 {
     match fault {
@@ -154,13 +159,14 @@ fn add_broken<A: Allocator + Copy>(
 /// a fault stands there; keeps those octets. Tells whether all of these lines are good.
 pub(crate) fn take_octets<A: Allocator + Copy>(
     alloc: A,
-    form: Form,
+    form: Form<'_>,
     text: &mut String<A>,
     behind: &mut Behind<A>,
     piece: &[u8],
 ) -> Result<bool, OutOfMemory>
     requires { behind.old.offset + length behind.old.kept.items + length piece.now < 2 ^ 64 }
-    ensures adds { IfOk result (λ good. AddsOctets form (behind.old.kept.items ++ piece.now) behind.old.offset behind.new.kept.items
+    ensures adds { IfOk result (λ good. AddsOctets (form_view form.entry) (behind.old.kept.items ++ piece.now) behind.old.offset
+        behind.new.kept.items
         behind.new.offset behind.new.fault (string_bytes text.old) (string_bytes text.new) good) }
     ensures offset { OnOk result (behind.new.offset + length behind.new.kept.items
         ≡ behind.old.offset + length behind.old.kept.items + length piece.now) }

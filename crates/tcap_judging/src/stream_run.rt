@@ -6,6 +6,7 @@ ghost use Rattle.tcap_judging.specs.Entry.{StreamTells, unfinished_entries};
 ghost use Rattle.tcap_judging.specs.EntryText.{entries_text, are_good};
 ghost use Rattle.tcap_judging.specs.StreamSteps.{WritesOctets, AreOctetsUntaken, IsRestUntold};
 ghost use Rattle.tcap_judging.specs.Run.{IsJudged, IsUnjudged};
+ghost use Rattle.tcap_judging.specs.NameViews.{form_view};
 
 use crate::fault::JudgingFault;
 use crate::form::Form;
@@ -21,16 +22,18 @@ use tcap_words::write_text;
 /// where a fault stands there. Tells whether all of these are good.
 fn write_octets<A: Allocator + Copy, W: Write>(
     alloc: A,
-    form: Form,
+    form: Form<'_>,
     behind: &mut Behind<A>,
     piece: &[u8],
     writer: &mut W,
 ) -> Result<bool, JudgingFault>
     requires { behind.old.offset + length behind.old.kept.items + length piece.now < 2 ^ 64 }
     ensures writes { MatchResult result
-        (λ good. WritesOctets form (behind.old.kept.items ++ piece.now) behind.old.offset behind.new.kept.items behind.new.offset behind.new.fault
+        (λ good. WritesOctets (form_view form.entry) (behind.old.kept.items ++ piece.now) behind.old.offset behind.new.kept.items
+        behind.new.offset behind.new.fault
         (W.contents writer.old) (W.contents writer.new) good)
-        (λ fault. AreOctetsUntaken form (behind.old.kept.items ++ piece.now) behind.old.offset (W.contents writer.old) (W.contents writer.new) fault) }
+        (λ fault. AreOctetsUntaken (form_view form.entry) (behind.old.kept.items ++ piece.now) behind.old.offset (W.contents writer.old)
+        (W.contents writer.new) fault) }
     ensures offset { OnOk result (behind.new.offset + length behind.new.kept.items
         ≡ behind.old.offset + length behind.old.kept.items + length piece.now) }
 {
@@ -44,15 +47,17 @@ fn write_octets<A: Allocator + Copy, W: Write>(
 /// stream is good, where so much of its messages is known.
 fn end_stream<A: Allocator + Copy, W: Write>(
     alloc: A,
-    form: Form,
+    form: Form<'_>,
     behind: &Behind<A>,
     good: bool,
     writer: &mut W,
 ) -> Result<bool, JudgingFault>
     ensures { MatchResult result
-        (λ ends. Appends (W.contents writer.old) (W.contents writer.new) (entries_text form (unfinished_entries behind.now.offset behind.now.kept.items None))
+        (λ ends. Appends (W.contents writer.old) (W.contents writer.new)
+        (entries_text (form_view form.entry) (unfinished_entries behind.now.offset behind.now.kept.items None))
         × (ends ≡ (good && are_good (unfinished_entries behind.now.offset behind.now.kept.items None))))
-        (λ fault. IsRestUntold form behind.now.kept.items behind.now.offset (W.contents writer.old) (W.contents writer.new) fault) }
+        (λ fault. IsRestUntold (form_view form.entry) behind.now.kept.items behind.now.offset (W.contents writer.old)
+        (W.contents writer.new) fault) }
 {
     if behind.kept.is_empty() {
         return Ok(good);
@@ -73,7 +78,8 @@ fn end_stream<A: Allocator + Copy, W: Write>(
 /// ```rust
 /// let mut stream: &[u8] = &[0x62, 0x03, 0x48, 0x01, 0x07, 0x62, 0x03];
 /// let mut out = Vec::new(alloc);
-/// assert_eq!(rt; judge_stream(alloc, Form::Plain, &mut stream, &mut out), Ok(false));
+/// let form = Form { layout: Layout::Plain, names: None };
+/// assert_eq!(rt; judge_stream(alloc, form, &mut stream, &mut out), Ok(false));
 /// assert_eq!(rt; out.as_slice(), b"0 good\n5 fault badly formatted place 2 element 0: expected 3 more octets, found the end\n".as_slice());
 /// ```
 ///
@@ -82,13 +88,15 @@ fn end_stream<A: Allocator + Copy, W: Write>(
 /// As `judge_lines`.
 pub fn judge_stream<A: Allocator + Copy, R: Read, W: Write>(
     alloc: A,
-    form: Form,
+    form: Form<'_>,
     reader: &mut R,
     writer: &mut W,
 ) -> Result<bool, JudgingFault>
     ensures { MatchResult result
-        (λ good. IsJudged form StreamTells (R.remaining reader.old) (R.remaining reader.new) (W.contents writer.old) (W.contents writer.new) good)
-        (λ fault. IsUnjudged form StreamTells (R.remaining reader.old) (R.remaining reader.new) (W.contents writer.old) (W.contents writer.new) fault) }
+        (λ good. IsJudged (form_view form.entry) StreamTells (R.remaining reader.old) (R.remaining reader.new) (W.contents writer.old)
+        (W.contents writer.new) good)
+        (λ fault. IsUnjudged (form_view form.entry) StreamTells (R.remaining reader.old) (R.remaining reader.new)
+        (W.contents writer.old) (W.contents writer.new) fault) }
 {
     let mut behind = Behind {
         kept: Vec::new(alloc),

@@ -4,6 +4,7 @@ ghost use Rattle.std.specs.Prelude.{◌≡◌, ◌++◌, List, [], ℕ, IfOk, On
 ghost use Rattle.tcap_judging.specs.Entry.{line};
 ghost use Rattle.tcap_judging.specs.EntryText.{entry_text, is_good_entry};
 ghost use Rattle.tcap_judging.specs.LineViews.{AreKept, IsWithin};
+ghost use Rattle.tcap_judging.specs.NameViews.{form_view};
 
 use crate::bad_line::BadLine;
 use crate::form::Form;
@@ -35,7 +36,7 @@ pub(crate) fn keep<A: Allocator + Copy>(
 /// Adds what is printed for a line of this number, of which these octets are kept, and tells whether it is good.
 pub(crate) fn add_kept<A: Allocator + Copy>(
     alloc: A,
-    form: Form,
+    form: Form<'_>,
     text: &mut String<A>,
     number: u64,
     kept: &[u8],
@@ -43,12 +44,12 @@ pub(crate) fn add_kept<A: Allocator + Copy>(
 ) -> Result<bool, OutOfMemory>
     requires { IsWithin kept.now is_long }
     ensures text { (octets : List ℕ) → AreKept octets kept.now is_long
-        → OnOk result (string_bytes text.new ≡ string_bytes text.old ++ entry_text form (line number octets)) }
+        → OnOk result (string_bytes text.new ≡ string_bytes text.old ++ entry_text (form_view form.entry) (line number octets)) }
     ensures good { (octets : List ℕ) → AreKept octets kept.now is_long
         → IfOk result (λ good. good ≡ is_good_entry (line number octets)) }
 {
     if is_long {
-        add_bad_line(form, text, number, BadLine::TooLong)?;
+        add_bad_line(form.layout, text, number, BadLine::TooLong)?;
         return Ok(false);
     }
     add_line(alloc, form, text, number, kept)

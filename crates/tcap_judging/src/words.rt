@@ -1,13 +1,13 @@
 //! The words of the command, read by `clap`.
 
-ghost use Rattle.std.specs.Prelude.{◌≡◌, ◌≢◌, ◌⊎◌, [], map, false, IfOk, MatchResult};
-ghost use Rattle.clap.specs.Words.{app_of, rule_of, rows_of, found_of, fault_of};
-ghost use Rattle.tcap_judging.specs.CommandLine.{option_rule, reading_app, judge_app, is_set, form_by, request_by, Ask};
+ghost use Rattle.std.specs.Prelude.{◌≡◌, ◌⊎◌, map, true, false, IfOk, MatchResult, option_map};
+ghost use Rattle.clap.specs.Words.{app_of, rule_of, rows_of, found_of, first_of};
+ghost use Rattle.tcap_judging.specs.CommandLine.{Ask, AskNames, AskNothing, is_mixed, is_set, judge_app, layout_by, names_by, names_rule, option_rule, reading_app, request_by};
 
 use crate::fault::JudgingFault;
-use crate::form::Form;
+use crate::form::Layout;
 use crate::refusal::Refusal;
-use crate::request::Request;
+use crate::request::{Asked, Request};
 use clap::error::ErrorKind;
 use clap::{Arg, ArgAction, ArgMatches, Command};
 use std::alloc::{AllocError, Global};
@@ -20,7 +20,17 @@ fn option<'a>(alloc: Global, name: &'a str) -> Arg<'a>
     Arg::new(alloc, name).long(name).action(ArgAction::SetTrue)
 }
 
-/// The command `tcap_judge` with the options that say what it reads.
+/// The option with the file of names.
+fn names_option<'a>(alloc: Global) -> Arg<'a>
+    ensures rule { rule_of result ≡ names_rule }
+    ensures global { result.global ≡ false }
+{
+    Arg::new(alloc, "names")
+        .long("names")
+        .action(ArgAction::Set)
+}
+
+/// The command `tcap_judge` with the first of its options.
 fn reading_command<'a>(alloc: Global) -> Result<Command<'a>, AllocError>
     ensures { IfOk result (λ c. app_of c ≡ reading_app) }
 {
@@ -38,8 +48,10 @@ fn judge_command<'a>(alloc: Global) -> Result<Command<'a>, AllocError>
     ensures { IfOk result (λ c. app_of c ≡ judge_app) }
 {
     reading_command(alloc)?
+        .arg(option(alloc, "resync"))?
         .arg(option(alloc, "explain"))?
-        .arg(option(alloc, "json"))
+        .arg(option(alloc, "json"))?
+        .arg(names_option(alloc))
 }
 
 /// Whether an option was given. Its text is looked at, since a contract says of it what the words give.
@@ -53,15 +65,15 @@ fn is_set(matches: &ArgMatches<'_>, name: &str) -> bool
 }
 
 /// How the options that were found ask to print.
-fn form_of(matches: &ArgMatches<'_>) -> Form
-    ensures { result ≡ form_by (rows_of (found_of matches.now)) }
+fn layout_of(matches: &ArgMatches<'_>) -> Layout
+    ensures { result ≡ layout_by (rows_of (found_of matches.now)) }
 {
     if is_set(matches, "json") {
-        Form::Json
+        Layout::Json
     } else if is_set(matches, "explain") {
-        Form::Marked
+        Layout::Marked
     } else {
-        Form::Plain
+        Layout::Plain
     }
 }
 
@@ -73,27 +85,89 @@ fn request_of(matches: &ArgMatches<'_>) -> Request
         Request::Help
     } else if is_set(matches, "version") {
         Request::Version
+    } else if is_set(matches, "resync") {
+        Request::Resync(layout_of(matches))
     } else if is_set(matches, "stream") {
-        Request::Stream(form_of(matches))
+        Request::Stream(layout_of(matches))
     } else {
-        Request::Lines(form_of(matches))
+        Request::Lines(layout_of(matches))
     }
 }
 
+/// The value of an option, if it was given.
+fn value_of<'a>(matches: &ArgMatches<'a>, name: &str) -> Option<&'a str>
+    ensures { option_map (λ t. t.now) result ≡ first_of name.now (rows_of (found_of matches.now)) }
+{
+    matches.get_str(name)
+}
+
+/// The file of names that the options tell, where something is read.
+fn names_of<'a>(matches: &ArgMatches<'a>) -> Option<&'a str>
+    ensures { option_map (λ t. t.now) result ≡ names_by (rows_of (found_of matches.now)) }
+{
+    if is_set(matches, "help") || is_set(matches, "version") {
+        None
+    } else {
+        value_of(matches, "names")
+    }
+}
+
+/// Whether the options ask for names in JSON, which has none.
+fn is_mixed(matches: &ArgMatches<'_>) -> bool
+    ensures { result ≡ is_mixed (rows_of (found_of matches.now)) }
+{
+    is_set(matches, "json") && names_of(matches).is_some()
+}
+
+/// What the options that were found ask for, if they ask for something.
+fn asked_of<'a>(matches: &ArgMatches<'a>) -> Result<Asked<'a>, Refusal>
+    ensures { MatchResult result
+        (λ asked. (is_mixed (rows_of (found_of matches.now)) ≡ false)
+        × (asked.request ≡ request_by (rows_of (found_of matches.now)))
+        × (option_map (λ t. t.now) asked.names ≡ names_by (rows_of (found_of matches.now))))
+        (λ refusal. (refusal ≡ Refusal.BadCommand) × (is_mixed (rows_of (found_of matches.now)) ≡ true)) }
+{
+    if is_mixed(matches) {
+        return Err(Refusal::BadCommand);
+    }
+    Ok(Asked {
+        request: request_of(matches),
+        names: names_of(matches),
+    })
+}
+
 /// What the words after the program's name ask for.
-pub(crate) fn read_words<'a>(alloc: Global, words: &'a [&'a str]) -> Result<Request, Refusal>
-    ensures { MatchResult result (λ request. Ask (map (λ w. w.now) words.now) request)
+pub(crate) fn read_words<'a>(alloc: Global, words: &'a [&'a str]) -> Result<Asked<'a>, Refusal>
+    ensures { MatchResult result (λ asked. Ask (map (λ w. w.now) words.now) asked.request
+        × AskNames (map (λ w. w.now) words.now) (option_map (λ t. t.now) asked.names))
         (λ refusal. (refusal ≡ Refusal.Fault JudgingFault.OutOfMemory)
-        ⊎ ((refusal ≡ Refusal.BadCommand) × (fault_of judge_app (map (λ w. w.now) words.now) ≢ []))) }
+        ⊎ ((refusal ≡ Refusal.BadCommand) × AskNothing (map (λ w. w.now) words.now))) }
 {
     let Ok(command) = judge_command(alloc) else {
         return Err(Refusal::Fault(JudgingFault::OutOfMemory));
     };
     match command.try_get_matches_from(words) {
-        Ok(matches) => Ok(request_of(&matches)),
+        Ok(matches) => asked_of(&matches),
         Err(error) => match error.kind() {
             ErrorKind::OutOfMemory => Err(Refusal::Fault(JudgingFault::OutOfMemory)),
             _ => Err(Refusal::BadCommand),
         },
+    }
+}
+
+/// The file of names that the words after the program's name tell, if they tell one.
+///
+/// # Errors
+///
+/// `BadCommand` where the words are none of the command's, or ask for names in JSON; `OutOfMemory` where memory was
+/// refused.
+pub fn names_file<'a>(alloc: Global, words: &'a [&'a str]) -> Result<Option<&'a str>, Refusal>
+    ensures { MatchResult result (λ file. AskNames (map (λ w. w.now) words.now) (option_map (λ t. t.now) file))
+        (λ refusal. (refusal ≡ Refusal.Fault JudgingFault.OutOfMemory)
+        ⊎ ((refusal ≡ Refusal.BadCommand) × AskNothing (map (λ w. w.now) words.now))) }
+{
+    match read_words(alloc, words) {
+        Ok(asked) => Ok(asked.names),
+        Err(refusal) => Err(refusal),
     }
 }

@@ -1,9 +1,10 @@
 //! Each growth refused in turn.
 
+use super::words::PLAIN;
 use refusing::Refusing;
 use std::alloc::Global;
 use std::test::Fail;
-use tcap_judging::{Form, JudgingFault, judge_lines};
+use tcap_judging::{JudgingFault, judge_lines};
 
 /// Lines, and what they print.
 const ROWS: &[(&str, &str, u64)] = &[
@@ -35,7 +36,7 @@ fn refused_growths(
         let mut reader = input;
         let mut out = Vec::new(alloc);
         heap.refuse(number);
-        let ran = judge_lines(heap, Form::Plain, &mut reader, &mut out);
+        let ran = judge_lines(heap, PLAIN, &mut reader, &mut out);
         if heap.is_armed() {
             heap.refuse(0);
             return (ran.is_ok() && out.as_slice() == wanted).then_some(told);

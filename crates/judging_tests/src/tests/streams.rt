@@ -1,11 +1,11 @@
 //! Streams, cut at each octet, with a fault and without an end.
 
-use super::words::run;
+use super::words::{PLAIN, run};
 use std::alloc::Global;
 use std::io;
 use std::io::Read;
 use std::test::Fail;
-use tcap_judging::{Form, judge_stream};
+use tcap_judging::judge_stream;
 
 /// The stream, the status, and what is written.
 const ROWS: &[(&[u8], u8, &str)] = &[
@@ -36,8 +36,8 @@ const ROWS: &[(&[u8], u8, &str)] = &[
 
 /// A reader of one octet at a time.
 #[derive(Drop)]
-struct Single<'a> {
-    left: &'a [u8],
+pub(super) struct Single<'a> {
+    pub(super) left: &'a [u8],
 }
 
 impl Read for Single<'_> {
@@ -60,7 +60,7 @@ impl Read for Single<'_> {
 fn is_so(alloc: Global, octets: &[u8], status: u8, written: &str) -> bool {
     let mut reader = Single { left: octets };
     let mut out = Vec::new(alloc);
-    let good = judge_stream(alloc, Form::Plain, &mut reader, &mut out);
+    let good = judge_stream(alloc, PLAIN, &mut reader, &mut out);
     good == Ok(status == 0) && out.as_slice() == written.as_bytes()
 }
 

@@ -2,7 +2,7 @@
 
 use std::alloc::Global;
 use std::test::Fail;
-use tcap_judging::run_judge;
+use tcap_judging::{Form, Layout, Named, names_file, read_names, run_judge};
 
 /// What a run of the command came to: its status, what it wrote, and what it told on standard error.
 #[derive(Drop)]
@@ -24,12 +24,31 @@ impl Ran {
     }
 }
 
+/// How a run prints lines alone.
+pub(super) const PLAIN: Form<'static> = Form {
+    layout: Layout::Plain,
+    names: None,
+};
+
 /// Runs the command over an input.
 pub(super) fn run(alloc: Global, words: &[&str], input: &[u8]) -> Ran {
+    run_named(alloc, words, None, input)
+}
+
+/// Runs the command by a list of names.
+fn run_named(alloc: Global, words: &[&str], names: Option<&[Named<'_>]>, input: &[u8]) -> Ran {
     let mut reader = input;
     let mut written = Vec::new(alloc);
     let mut told = Vec::new(alloc);
-    let status = run_judge(alloc, alloc, words, &mut reader, &mut written, &mut told);
+    let status = run_judge(
+        alloc,
+        alloc,
+        words,
+        names,
+        &mut reader,
+        &mut written,
+        &mut told,
+    );
     Ran {
         status,
         written,
@@ -64,6 +83,14 @@ const ROWS: &[(&[&str], u8, &str, &str)] = &[
     (&["lines"], 2, "", BAD),
     (&["--version", "--version"], 2, "", BAD),
     (&["-x"], 2, "", BAD),
+    (&["--names"], 2, "", BAD),
+    (&["--names", "list", "--json"], 2, "", BAD),
+    (
+        &["--names", "list", "--json", "--help"],
+        0,
+        "Usage: tcap_judge ",
+        "",
+    ),
 ];
 
 #[test]
@@ -145,5 +172,52 @@ fn forms_of_what_is_printed(rt: HostRuntime) -> Result<(), Fail> {
             "at {option}, {input:?}"
         );
     }
+    Ok(())
+}
+
+/// Words, and the file of names that they tell.
+const FILES: &[(&[&str], Option<&str>)] = &[
+    (&[], None),
+    (&["--stream"], None),
+    (&["--names", "list"], Some("list")),
+    (&["--names=list", "--stream"], Some("list")),
+    (&["--names", "list", "--help"], None),
+    (&["--version", "--names", "list"], None),
+];
+
+#[test]
+fn files_of_names(rt: HostRuntime) -> Result<(), Fail> {
+    for (words, wanted) in FILES {
+        let is_so = match names_file(rt.alloc(), words) {
+            Ok(file) => file == *wanted,
+            Err(_) => false,
+        };
+        assert!(rt; is_so, "at {words:?}");
+    }
+    assert!(rt; names_file(rt.alloc(), &["--names", "list", "--json"]).is_err());
+    Ok(())
+}
+
+/// Messages: a Begin with an Invoke of operation 2, one that breaks off, and one with a faulty component behind the Invoke.
+const NAMING: &str =
+    "m: 620d4801076c08a106020101020102\n620348\nn: 620f4801076c0aa1060201010201020400\n";
+
+/// What is written of them by a list that has the operation.
+const NAMED: &str =
+    "m good; invoke 1 updateLocation\n2 fault badly formatted place 3 element 0: expected 2 more octets, found the end\nn fault component 2 place 15 element 15: expected a component 0xa1, 0xa2, 0xa3, 0xa4 or 0xa7, found 0x04; invoke 1 updateLocation\n";
+
+/// Whether a run by this list writes this.
+fn is_named(alloc: Global, words: &[&str], list: &str, written: &str) -> bool {
+    let Ok(names) = read_names(alloc, list.as_bytes()) else {
+        return false;
+    };
+    let ran = run_named(alloc, words, Some(names.as_slice()), NAMING.as_bytes());
+    ran.is(1, written.as_bytes(), b"")
+}
+
+#[test]
+fn names_behind_verdicts(rt: HostRuntime) -> Result<(), Fail> {
+    let words = ["--names", "list"];
+    assert!(rt; is_named(rt.alloc(), &words, "operation 2 updateLocation\n", NAMED));
     Ok(())
 }

@@ -1,0 +1,13 @@
+use Rattle.std.proofs.Common.{rules, ◌≡◌, ◌<◌, ◌+◌, ◌∙◌, ap, arith, drop, false, length, sym}
+use Rattle.tcap_judging.proofs.ResyncCuts.{place-next, rest-from}
+use Rattle.tcap_judging.specs.Resync.{may_begin, passed_in}
+use Rattle.tcap_judging.proofs.search.pass_over.Goals as goal
+
+pub loop-count-preserved : goal.loop-count-preserved
+loop-count-preserved c =
+    let n = c.loop-count.count in
+    let octets = c.args.octets.now in
+    let low : n < length octets = search rules in
+    let bad : may_begin c.args.ends (drop n octets) ≡ false = ap (may_begin c.args.ends) (sym (rest-from octets n)) ∙ sym c.may_begin.ensures ∙ c.if-may_begin.false in
+    let next : passed_in c.args.ends (drop n octets) ≡ 1 + passed_in c.args.ends (drop (n + 1) octets) = place-next (may_begin c.args.ends) octets n low bad in
+    omega (arith, c.loop-count.invariant, next)

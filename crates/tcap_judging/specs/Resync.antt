@@ -1,0 +1,84 @@
+-- A stream that goes on behind its faults, at the next octet that begins a good message.
+use Rattle.std.specs.Prelude.{◌≡◌, ◌==◌, ◌||◌, ◌&&◌, ℕ, suc, ◌+◌, Bool, true, false, List, [], ◌∷◌, ◌++◌, length, take, drop, Option, Some, None, nat_lt, if◌then◌else◌}
+use Rattle.ber_core.specs.declared.fault.FeedFault.{FeedFault}
+use Rattle.ber_core.specs.Stream.{cut_into, cut_of}
+use Rattle.tcap_words.specs.Show.{show_is_good}
+use Rattle.tcap_judging.specs.Entry.{Entry, broken, judged_by, message_entries, octets_in, passed}
+use Rattle.tcap_judging.specs.declared.place.Place.{Place}
+use Rattle.tcap_judging.specs.declared.place.Place.TheVariants.{Reading, Searching}
+
+-- The tags of the five messages (Q.773, TC message).
+abbrev pub is_message_tag : ℕ → Bool
+is_message_tag tag = (tag == 0x61) || ((tag == 0x62) || ((tag == 0x64) || ((tag == 0x65) || (tag == 0x67))))
+
+-- The octets begin with the tag of a message (own).
+abbrev pub has_message_tag : List ℕ → Bool
+has_message_tag [] = false
+has_message_tag (tag ∷ octets) = is_message_tag tag
+
+-- The first message of a stream is good; where more octets may follow, it may also be that none is whole yet and no
+-- fault stands (own).
+abbrev pub may_be_good : (ends : Bool) → List (List ℕ) → Option FeedFault → Bool
+may_be_good ends (m ∷ messages) fault = show_is_good m
+may_be_good true [] fault = false
+may_be_good false [] None = true
+may_be_good false [] (Some why) = false
+
+-- A good message begins the octets; where more may follow, also: may begin them (own).
+abbrev pub may_begin : (ends : Bool) → List ℕ → Bool
+may_begin ends octets = has_message_tag octets && may_be_good ends (cut_of octets).messages (cut_of octets).fault
+
+-- How many octets stand before the first place at which this holds of what stands from there on, or before the end
+-- (own).
+abbrev pub first_place : (List ℕ → Bool) → List ℕ → ℕ
+first_place holds [] = 0
+first_place holds (octet ∷ octets) = if holds (octet ∷ octets) then 0 else suc (first_place holds octets)
+
+-- How many octets are passed over from here on (own).
+abbrev pub passed_in : (ends : Bool) → List ℕ → ℕ
+passed_in ends octets = first_place (may_begin ends) octets
+
+-- The search is over at these octets: a good message begins them, or the stream ends (own).
+abbrev pub is_found : (ends : Bool) → List ℕ → Bool
+is_found ends octets = ends || may_begin true octets
+
+-- The octets behind the last message are told: where the stream ends and there are any, or where a fault stands and all
+-- octets that are judged have come (own).
+abbrev pub is_known : (ends : Bool) → List ℕ → Option FeedFault → Bool
+is_known true rest fault = nat_lt 0 (length rest)
+is_known false rest None = false
+is_known false rest (Some why) = nat_lt 65535 (length rest)
+
+-- Of the octets behind the last message those that are judged: all where the stream ends and no fault stands (own).
+abbrev pub judged_of : List ℕ → Option FeedFault → List ℕ
+judged_of rest None = rest
+judged_of rest (Some why) = take (judged_by why) rest
+
+-- A stream tells these entries from a place on, where these octets are all that follow (`ends`), or so many as have
+-- come yet. From a place at which a message may begin it tells its messages. Where no more is known behind them, that
+-- is all. Else it tells the octets behind them, and searches from their second octet on. A search passes over the
+-- octets before the first at which a good message begins, or may begin as more come. There the search is over, these
+-- octets are told, and the stream goes on; or more have to come (own).
+pub data Tells : (ends : Bool) → Place → List ℕ → List Entry → Type 0 where
+  stays : (ends : Bool) (offset : ℕ) (octets : List ℕ) (messages : List (List ℕ)) (rest : List ℕ)
+      (fault : Option FeedFault) → cut_of octets ≡ cut_into messages rest fault → is_known ends rest fault ≡ false
+      → Tells ends (Reading offset) octets (message_entries offset messages)
+  faults : (ends : Bool) (offset : ℕ) (octets : List ℕ) (messages : List (List ℕ)) (rest : List ℕ)
+      (fault : Option FeedFault) (others : List Entry) → cut_of octets ≡ cut_into messages rest fault
+      → is_known ends rest fault ≡ true
+      → Tells ends (Searching (offset + octets_in messages) 1) (drop 1 rest) others
+      → Tells ends (Reading offset) octets (message_entries offset messages
+      ++ (broken (offset + octets_in messages) (judged_of rest fault) ∷ others))
+  searches : (ends : Bool) (first count : ℕ) (octets : List ℕ) → is_found ends (drop (passed_in ends octets) octets)
+      ≡ false
+      → Tells ends (Searching first count) octets []
+  finds : (ends : Bool) (first count : ℕ) (octets : List ℕ) (others : List Entry)
+      → is_found ends (drop (passed_in ends octets) octets) ≡ true
+      → Tells ends (Reading (first + (count + passed_in ends octets))) (drop (passed_in ends octets) octets) others
+      → Tells ends (Searching first count) octets (passed first (count + passed_in ends octets) ∷ others)
+
+-- A stream that goes on behind its faults has these entries: those that it tells while more octets may follow, and
+-- behind them those that it tells besides where it ends (own).
+pub record ResyncTells (input : List ℕ) (entries last : List Entry) : Type 0 where
+  pub so_far : Tells false (Reading 0) input entries
+  pub in_all : Tells true (Reading 0) input (entries ++ last)

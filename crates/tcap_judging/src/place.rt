@@ -1,0 +1,10 @@
+//! Where a run stands in a stream that goes on behind its faults.
+
+/// Where a run stands in a stream.
+#[derive(Clone, Copy)]
+pub(crate) enum Place {
+    /// At an octet at which a message may begin: its offset.
+    Reading(u64),
+    /// Behind octets that are passed over: the offset of the first, and how many they are.
+    Searching(u64, u64),
+}

@@ -1,0 +1,156 @@
+//! A run over a stream of messages that goes on behind its faults.
+
+ghost use Rattle.std.specs.Prelude.{◌≡◌, ◌<◌, ◌+◌, ◌^◌, ◌++◌, length, true, false, MatchResult, IfOk, OnOk, string_bytes};
+ghost use Rattle.tcap_judging.specs.Resync.{ResyncTells};
+ghost use Rattle.tcap_judging.specs.ResyncSteps.{AddsSteps, WritesSteps, AreStepsUntaken, WritesEnd, IsEndUntold, has_more, offset_at};
+ghost use Rattle.tcap_judging.specs.Run.{IsJudged, IsUnjudged};
+ghost use Rattle.tcap_judging.specs.NameViews.{form_view};
+
+use crate::fault::JudgingFault;
+use crate::form::Form;
+use crate::line_run::{MOST_READS, PIECE};
+use crate::place::Place;
+use crate::resync::advance;
+use ber_core::OutOfMemory;
+use std::alloc::Allocator;
+use std::io::{Read, Write};
+use tcap_words::write_text;
+
+/// What is kept of a stream: where the run stands in it, and the octets from there on.
+#[derive(Drop)]
+struct Left<A: Allocator + Copy> {
+    kept: Vec<u8, A>,
+    place: Place,
+}
+
+/// Takes a piece of the stream, adds what it makes known, and keeps the octets behind that. Tells whether all of it is
+/// good.
+fn take_more<A: Allocator + Copy>(
+    alloc: A,
+    form: Form<'_>,
+    text: &mut String<A>,
+    left: &mut Left<A>,
+    piece: &[u8],
+) -> Result<bool, OutOfMemory>
+    requires { offset_at left.old.place + length left.old.kept.items + length piece.now < 2 ^ 64 }
+    ensures adds { IfOk result (λ good. AddsSteps (form_view form.entry) false left.old.place (left.old.kept.items ++ piece.now)
+        left.new.place left.new.kept.items true
+        (string_bytes text.old) (string_bytes text.new) good) }
+    ensures offset { OnOk result (offset_at left.new.place + length left.new.kept.items
+        ≡ offset_at left.old.place + length left.old.kept.items + length piece.now) }
+{
+    left.kept.extend_from_slice(piece)?;
+    let done = advance(form, text, false, left.place, left.kept.as_slice())?;
+    let mut kept = Vec::new(alloc);
+    kept.extend_from_slice(done.rest)?;
+    let (place, good) = (done.place, done.good);
+    left.kept = kept;
+    left.place = place;
+    Ok(good)
+}
+
+/// Takes a piece of the stream, and writes what it makes known. Tells whether all of it is good.
+fn write_more<A: Allocator + Copy, W: Write>(
+    alloc: A,
+    form: Form<'_>,
+    left: &mut Left<A>,
+    piece: &[u8],
+    writer: &mut W,
+) -> Result<bool, JudgingFault>
+    requires { offset_at left.old.place + length left.old.kept.items + length piece.now < 2 ^ 64 }
+    ensures writes { MatchResult result
+        (λ good. WritesSteps (form_view form.entry) left.old.place (left.old.kept.items ++ piece.now) left.new.place left.new.kept.items
+        (W.contents writer.old) (W.contents writer.new) good)
+        (λ fault. AreStepsUntaken (form_view form.entry) left.old.place (left.old.kept.items ++ piece.now) (W.contents writer.old)
+        (W.contents writer.new) fault) }
+    ensures offset { OnOk result (offset_at left.new.place + length left.new.kept.items
+        ≡ offset_at left.old.place + length left.old.kept.items + length piece.now) }
+{
+    let mut text = String::new(alloc);
+    let good = take_more(alloc, form, &mut text, left, piece)?;
+    write_text(writer, text.as_bytes())?;
+    Ok(good)
+}
+
+/// Whether a stream that ends here has more to tell.
+fn has_more<A: Allocator + Copy>(left: &Left<A>) -> bool
+    ensures { result ≡ has_more left.now.place left.now.kept.items }
+{
+    match left.place {
+        Place::Reading(_) => !left.kept.is_empty(),
+        Place::Searching(_, _) => true,
+    }
+}
+
+/// Writes what the end of the stream makes known. Tells whether the stream is good, where so much of what stands before
+/// is known.
+fn end_more<A: Allocator + Copy, W: Write>(
+    alloc: A,
+    form: Form<'_>,
+    left: &Left<A>,
+    good: bool,
+    writer: &mut W,
+) -> Result<bool, JudgingFault>
+    requires { offset_at left.now.place + length left.now.kept.items < 2 ^ 64 }
+    ensures { MatchResult result
+        (λ ends. WritesEnd (form_view form.entry) left.now.place left.now.kept.items (W.contents writer.old) (W.contents writer.new)
+        good ends)
+        (λ fault. IsEndUntold (form_view form.entry) left.now.place left.now.kept.items (W.contents writer.old) (W.contents writer.new)
+        fault) }
+{
+    if !has_more(left) {
+        return Ok(good);
+    }
+    let mut text = String::new(alloc);
+    let done = advance(form, &mut text, true, left.place, left.kept.as_slice())?;
+    write_text(writer, text.as_bytes())?;
+    Ok(good & done.good)
+}
+
+/// Judges the messages of the stream that the reader gives, as `judge_stream` does, and goes on behind a fault.
+/// Where no message can begin, or the stream ends within one, a line tells the fault as there. The octets from
+/// there on are passed over up to the next at which a good message begins, or to the end, and a line tells how many
+/// they are. Tells whether every message is good and nothing was passed over. What is written is the same however
+/// the stream is cut into reads. A fault is told once 65,536 octets from its message's first octet on have come, or
+/// the end.
+///
+/// ```rust
+/// let mut stream: &[u8] = &[0x00, 0x01, 0x62, 0x03, 0x48, 0x01, 0x07];
+/// let mut out = Vec::new(alloc);
+/// let form = Form { layout: Layout::Plain, names: None };
+/// assert_eq!(rt; judge_resynced(alloc, form, &mut stream, &mut out), Ok(false));
+/// assert_eq!(rt; out.as_slice(), b"0 fault badly formatted place 0 element 0: expected a tag, found 0x00\n0 passed over 2 octets\n2 good\n".as_slice());
+/// ```
+///
+/// # Errors
+///
+/// As `judge_lines`.
+pub fn judge_resynced<A: Allocator + Copy, R: Read, W: Write>(
+    alloc: A,
+    form: Form<'_>,
+    reader: &mut R,
+    writer: &mut W,
+) -> Result<bool, JudgingFault>
+    ensures { MatchResult result
+        (λ good. IsJudged (form_view form.entry) ResyncTells (R.remaining reader.old) (R.remaining reader.new) (W.contents writer.old)
+        (W.contents writer.new) good)
+        (λ fault. IsUnjudged (form_view form.entry) ResyncTells (R.remaining reader.old) (R.remaining reader.new)
+        (W.contents writer.old) (W.contents writer.new) fault) }
+{
+    let mut left = Left {
+        kept: Vec::new(alloc),
+        place: Place::Reading(0),
+    };
+    let mut good = true;
+    let mut piece = [0u8; PIECE];
+    for _ in 0..MOST_READS {
+        let Ok(count) = reader.read(&mut piece) else {
+            return Err(JudgingFault::Read);
+        };
+        if count == 0 {
+            return end_more(alloc, form, &left, good, writer);
+        }
+        good &= write_more(alloc, form, &mut left, &piece[..count], writer)?;
+    }
+    Err(JudgingFault::TooLong)
+}
