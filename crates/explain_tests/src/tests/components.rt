@@ -161,6 +161,22 @@ const COMPONENTS: &[(&str, &str)] = &[
         "62812a4801016b8200152813060700118605010101a0086006a10406022a036c82000aa203020101a303020102",
         "fault component 2\nplace 45 element 45: expected the local code 0x02 or the global code 0x06, found the end\n",
     ),
+    (
+        "62104801016c0ba109800102020101020102",
+        "fault component 1\nplace 9 element 9: expected the invoke identifier 0x02, found 0x80\n",
+    ),
+    (
+        "620e4801016c09a20702010130020500",
+        "fault component 1\nplace 14 element 14: expected the local code 0x02 or the global code 0x06, found 0x05\n",
+    ),
+    (
+        "62114801016c0ca20a02010130050400020101",
+        "fault component 1\nplace 14 element 14: expected the local code 0x02 or the global code 0x06, found 0x04\n",
+    ),
+    (
+        "620d4801016c08a406020101840100",
+        "fault component 1\nplace 12 element 12: expected the problem 0x80, 0x81, 0x82 or 0x83, found 0x84\n",
+    ),
 ];
 
 #[test]

@@ -125,6 +125,10 @@ const MESSAGES: &[(&str, &str)] = &[
     ("64104904beef00026c08a406020101800109", "good\n"),
     ("6703490101", "good\n"),
     ("670b4901016b06280406022a03", "good\n"),
+    (
+        "65064801014a0101",
+        "fault incorrect\nplace 5 element 5: expected the destination transaction identifier 0x49, found 0x4a\n",
+    ),
 ];
 
 #[test]

@@ -217,6 +217,14 @@ const PORTIONS: &[(&str, &str)] = &[
         "62194801016b142812060700118605010101a0076405be00800100",
         "fault dialogue\nplace 22 element 22: expected the abort source 0x80, found 0xbe\n",
     ),
+    (
+        "621c4801016b172815060700118605010101a00a6108a10406022a03a400",
+        "fault dialogue\nplace 28 element 28: expected the result 0xa2, found 0xa4\n",
+    ),
+    (
+        "62164801016b11280f060700118605010101a0046402a200",
+        "fault dialogue\nplace 22 element 22: expected the abort source 0x80, found 0xa2\n",
+    ),
 ];
 
 #[test]
