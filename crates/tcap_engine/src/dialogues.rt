@@ -1,5 +1,7 @@
 //! The dialogues that stand, and of each the moment at which time next changes it.
 
+// Hints to inline: each step of an engine runs through it; docs/PERF.md says what the whole of it inlined gains.
+
 ghost use Rattle.std.specs.Prelude.{◌≡◌, ◌≢◌, ◌≤◌, ◌⊎◌, ◌+◌, ◌-◌, ◌++◌, ◌∷◌, ◌^◌, [], nat_eq, length, min};
 ghost use Rattle.std.specs.Prelude.{None, false, option_copied, OnErr, OnOk, MatchOption, if◌then◌else◌};
 ghost use Rattle.std.specs.Map.{lookup, remove_entry};
@@ -53,6 +55,7 @@ impl<A: Allocator + Copy> Model for Dialogues<A> {
 
 impl<A: Allocator + Copy> Dialogues<A> {
     /// No dialogues; takes no memory.
+    #[inline(always)]
     pub(crate) fn new(alloc: A) -> Self
         ensures { result ≡ [] }
     {
@@ -83,6 +86,7 @@ impl<A: Allocator + Copy> Dialogues<A> {
 
     /// The state of the dialogue with an identifier, if it stands; a call for the same one that follows finds it at
     /// once.
+    #[inline(always)]
     pub(crate) fn find_state(&mut self, identifier: u32) -> Option<State>
         ensures state { result ≡ option_map (λ d. state_of d.standing.state) (lookup (nat_eq identifier) self.old) }
         ensures same { self.new ≡ self.old }
@@ -112,6 +116,7 @@ impl<A: Allocator + Copy> Dialogues<A> {
     }
 
     /// The least timer of all, and of the dialogues that share it the least identifier.
+    #[inline(always)]
     pub(crate) fn first_timer(&self) -> Option<(u64, u32)>
         ensures { MatchOption result (AreUntimed self.now) (IsFirstTimer self.now) }
     {
@@ -120,6 +125,7 @@ impl<A: Allocator + Copy> Dialogues<A> {
 
     /// How much room the answer to a moment needs, as far as a `usize` can tell: none for outputs where
     /// nothing is told.
+    #[inline(always)]
     pub(crate) fn capacity_at(&self, now: u64) -> Capacity
         ensures enough { length (all_told now (dialogues_of self.now)) + length
             (all_idle_told now (dialogues_of self.now)) ≤ result.told ⊎ (result.told ≡ 2 ^ 64 - 1) }
@@ -150,6 +156,7 @@ impl<A: Allocator + Copy + fmt::Debug> fmt::Debug for Dialogues<A> {
 }
 
 /// Whether a dialogue has been idle too long at a moment.
+#[inline(always)]
 fn is_idle<A: Allocator + Copy>(dialogue: &Dialogue<A>, now: u64) -> bool
     ensures { result ≡ is_idle_at now dialogue.now }
 {
@@ -158,6 +165,7 @@ fn is_idle<A: Allocator + Copy>(dialogue: &Dialogue<A>, now: u64) -> bool
 
 /// The memory of the dialogue of an identifier, which is over, is kept.
 // It leaves it where it stands: taken out before, its 192 octets were copied five times.
+#[inline(always)]
 fn leave_memory<A: Allocator + Copy>(
     rows: &mut Table<Dialogue<A>, A>,
     spares: &mut Spares<A>,

@@ -1,5 +1,7 @@
 //! The engine and what it keeps.
 
+// Hints to inline: each step of an engine runs through it; docs/PERF.md says what the whole of it inlined gains.
+
 pub(crate) mod advance;
 pub(crate) mod component_requests;
 pub(crate) mod counts;
@@ -70,6 +72,7 @@ impl<A: Allocator + Copy> Model for Engine<A> {
 
 impl<A: Allocator + Copy> Engine<A> {
     /// An engine with clock 0 and no dialogues, whose first dialogue and first invocation are 1.
+    #[inline(always)]
     pub fn new(alloc: A, limits: Limits) -> Engine<A>
         requires { AreLimits limits }
         ensures value { result ≡ first_world (empty_history limits 1 1).start }
@@ -81,6 +84,7 @@ impl<A: Allocator + Copy> Engine<A> {
 
     /// An engine with clock 0 and no dialogues that goes on with these counters: the identifier of its
     /// first dialogue and the number of its first invocation.
+    #[inline(always)]
     pub fn resume(alloc: A, limits: Limits, next_dialogue: u32, next_number: u64) -> Engine<A>
         requires { AreLimits limits }
         ensures value { result ≡ first_world (empty_history limits next_dialogue next_number).start }

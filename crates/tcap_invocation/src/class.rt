@@ -1,5 +1,7 @@
 //! Operation classes (Q.771, Operation classes).
 
+// Hints to inline: each step of an engine runs through it; docs/PERF.md says what the whole of it inlined gains.
+
 ghost use Rattle.std.specs.Prelude.{◌≡◌};
 ghost use Rattle.tcap_invocation.specs.Class.{reports_success, reports_failure};
 
@@ -18,6 +20,7 @@ pub enum Class {
 
 impl Class {
     /// Whether success is reported, by a Return Result (Q.771, Operation classes).
+    #[inline(always)]
     pub fn reports_success(self) -> bool
         ensures { result ≡ reports_success self }
     {

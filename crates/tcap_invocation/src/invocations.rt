@@ -1,5 +1,7 @@
 //! The invocations of one dialogue (Q.774, Invocation state machine).
 
+// Hints to inline: each step of an engine runs through it; docs/PERF.md says what the whole of it inlined gains.
+
 ghost use Rattle.std.specs.Prelude.{◌≡◌, ◌↔◌, ◌≤◌, min, length, [], None, is_some, IsSome, IfSome, IfNone, OnOk, OnErr, IsErrOf, IsOkUnless, IsTrue, Err};
 ghost use Rattle.tcap_invocation.specs.Invocations.{InvocationList, AllBelow, IsSound, entry_at, sent_at, add_fault, added, after_sent};
 ghost use Rattle.tcap_invocation.specs.Stage.{moment_limit, IsTimeout};
@@ -66,6 +68,7 @@ impl<A: Allocator + Copy> Model for Invocations<A> {
 impl<A: Allocator + Copy> Invocations<A> {
     /// No invocation. `reject_ms` is how long an identifier waits for a Reject of its result or error,
     /// 0 to 2^62 (Q.774, Reject timer; the length is our own).
+    #[inline(always)]
     pub fn new(alloc: A, reject_ms: u64) -> Self
         requires { reject_ms ≤ moment_limit }
         ensures { result ≡ record { reject_ms = reject_ms; rows = [] } }
@@ -77,6 +80,7 @@ impl<A: Allocator + Copy> Invocations<A> {
     }
 
     /// No invocation any more, and a wait of this length, 0 to 2^62, as `new` gives; the room stays.
+    #[inline(always)]
     pub fn renew(&mut self, reject_ms: u64)
         requires { reject_ms ≤ moment_limit }
         ensures { self.new ≡ record { reject_ms = reject_ms; rows = [] } }
@@ -88,6 +92,7 @@ impl<A: Allocator + Copy> Invocations<A> {
     /// For how many invocations there is memory, at most 256, the number of identifiers. Where there were more than
     /// eight it may show less than there is once many were taken out; after `renew` it shows all, and 0 where there is
     /// none. A contract sees the rows alone.
+    #[inline(always)]
     pub fn capacity(&self) -> usize
         ensures least { min (length self.now.rows) 256 ≤ result }
         ensures most { result ≤ 256 }
@@ -103,6 +108,7 @@ impl<A: Allocator + Copy> Invocations<A> {
     }
 
     /// Whether the identifier is in use, in any stage.
+    #[inline(always)]
     pub fn in_use(&self, id: i8) -> bool
         ensures value { result ≡ is_some (entry_at self.now.rows id) }
         // What every list keeps.
@@ -113,6 +119,7 @@ impl<A: Allocator + Copy> Invocations<A> {
 
     /// Whether the number is above all in the list, as `add` needs it.
     #[tactic(auto, using(crate::proofs::OrderLemmas::below_rules))]
+    #[inline(always)]
     pub fn is_above_all(&self, number: u64) -> bool
         ensures { IsTrue result ↔ AllBelow number self.now.rows }
     {
@@ -148,6 +155,7 @@ impl<A: Allocator + Copy> Invocations<A> {
 
     /// `add`, where the timeout is in its range and the identifier is free.
     // Who has judged an Invoke doesn't have its identifier looked for again.
+    #[inline(always)]
     pub fn add_free(
         &mut self,
         id: i8,
@@ -169,6 +177,7 @@ impl<A: Allocator + Copy> Invocations<A> {
     }
 
     /// The message with the queued Invokes goes out at this moment, at most 2^62: each gets its deadline.
+    #[inline(always)]
     pub fn sent(&mut self, clock: u64)
         requires { clock ≤ moment_limit }
         ensures { self.new ≡ after_sent self.old clock }
@@ -180,6 +189,7 @@ impl<A: Allocator + Copy> Invocations<A> {
     /// the wait of an identifier, in milliseconds, at most 2^63. Nothing where there is none. It takes no
     /// memory (own).
     #[tactic(auto, using(crate::proofs::TimelyLemmas::timely_rules))]
+    #[inline(always)]
     pub fn next_timer(&self) -> Option<u64>
         ensures { result ≡ next_timer_at self.now.rows }
     {
@@ -188,6 +198,7 @@ impl<A: Allocator + Copy> Invocations<A> {
 }
 
 /// The invocation that has the identifier, if it is Sent.
+#[inline(always)]
 fn sent_at<A: Allocator + Copy>(rows: &Rows<A>, id: &i8) -> Option<Invocation>
     ensures { result ≡ sent_at rows.now id.now }
 {

@@ -1,5 +1,7 @@
 //! The state of an invocation (Q.774, Invocation state machine).
 
+// Hints to inline: each step of an engine runs through it; docs/PERF.md says what the whole of it inlined gains.
+
 ghost use Rattle.std.specs.Prelude.{◌≡◌};
 ghost use Rattle.tcap_invocation.specs.Stage.{is_queued};
 ghost use Rattle.tcap_invocation.specs.Lapses.{is_held, stays, due_deadline};
@@ -47,6 +49,7 @@ impl Stage {
     }
 
     /// The deadline, if it is at most the clock.
+    #[inline(always)]
     pub(crate) fn due_deadline(self, clock: u64) -> Option<u64>
         ensures { result ≡ due_deadline clock self }
     {
@@ -57,6 +60,7 @@ impl Stage {
     }
 
     /// Whether the identifier goes on waiting at the clock, or doesn't wait at all.
+    #[inline(always)]
     pub(crate) fn is_held(self, clock: u64) -> bool
         ensures { result ≡ is_held clock self }
     {

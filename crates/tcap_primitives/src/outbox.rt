@@ -1,5 +1,7 @@
 //! Outputs in memory that is used again and again.
 
+// Hints to inline: each step of an engine runs through it; docs/PERF.md says what the whole of it inlined gains.
+
 ghost use Rattle.std.specs.Prelude.{◌≡◌, ◌+◌, ◌≤◌, ◌↔◌, IsTrue, [], length, option_map, slice_get};
 ghost use Rattle.tcap_primitives.specs.OutboxViews.{output_ref_view, outputs_left};
 
@@ -49,6 +51,7 @@ impl<A: Allocator + Copy> Model for Outbox<A> {
 
 impl<A: Allocator + Copy> Outbox<A> {
     /// An outbox with no outputs; it takes no memory.
+    #[inline(always)]
     pub fn new(alloc: A) -> Self
         ensures outputs { result.outputs ≡ [] }
         ensures room { (result.places ≡ 0) × (result.octets ≡ 0) }
@@ -76,7 +79,7 @@ impl<A: Allocator + Copy> Outbox<A> {
     }
 
     /// The output at an index, from 0 on; `None` behind the last. It copies no octets.
-    #[inline]
+    #[inline(always)]
     pub fn get(&self, index: usize) -> Option<OutputRef<'_>>
         ensures { option_map output_ref_view result ≡ slice_get self.now.outputs index }
     {
@@ -93,7 +96,7 @@ impl<A: Allocator + Copy> Outbox<A> {
     }
 
     /// Forgets the outputs; the room for them stays.
-    #[inline]
+    #[inline(always)]
     pub fn clear(&mut self)
         ensures outputs { self.new.outputs ≡ [] }
         ensures places { self.new.places ≡ self.old.places + length self.old.outputs }

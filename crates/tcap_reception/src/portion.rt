@@ -1,5 +1,7 @@
 //! What the dialogue portion of a message means.
 
+// Hints to inline: each step of an engine runs through it; docs/PERF.md says what the whole of it inlined gains.
+
 ghost use Rattle.std.specs.Prelude.{◌≡◌, Some, option_copied};
 ghost use Rattle.tcap_reception.specs.PortionViews.{portion_view, begin_view, PortionIn, BeginIn, BeginNames};
 ghost use Rattle.tcap_primitives.specs.ContextViews.{context_view};
@@ -44,6 +46,7 @@ pub enum BeginVerdict<'m> {
 }
 
 /// The dialogue portion of a Begin: none, or an AARQ (Q.774, Dialogue begin).
+#[inline(always)]
 pub fn judge_begin<'m>(dialogue: Option<&'m [u8]>) -> BeginVerdict<'m>
     ensures verdict { begin_view result ≡ begin_verdict (option_copied dialogue.entry) }
     // A context is an object identifier.
@@ -167,6 +170,7 @@ fn judge_response<'m>(portion: &'m [u8]) -> PortionVerdict<'m>
 }
 
 /// No dialogue portion may stand there (Q.774, Dialogue continuation).
+#[inline(always)]
 fn judge_absent<'m>(dialogue: Option<&'m [u8]>) -> PortionVerdict<'m>
     ensures verdict { portion_view result ≡ absent_verdict (option_copied dialogue.entry) }
     ensures place { PortionIn 0x61 result dialogue.entry }
@@ -193,6 +197,7 @@ fn judge_answer<'m>(dialogue: Option<&'m [u8]>) -> PortionVerdict<'m>
 
 /// The dialogue portion of a Continue or an End to a dialogue in this state, with this application
 /// context (Q.774, Dialogue continuation).
+#[inline(always)]
 pub fn judge_portion<'m, A: Allocator + Copy>(
     phase: &Phase,
     context: &Option<Context<A>>,

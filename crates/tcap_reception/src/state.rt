@@ -1,5 +1,7 @@
 //! The states of a dialogue (Q.774, Transaction state machine).
 
+// Hints to inline: each step of an engine runs through it; docs/PERF.md says what the whole of it inlined gains.
+
 ghost use Rattle.std.specs.Prelude.{◌≡◌};
 ghost use Rattle.tcap_model.specs.Procedures.States.{has_peer, is_fresh};
 ghost use Rattle.tcap_model.specs.Words.State.{State as model, activated, is_live, peer_by, peer_of};
@@ -181,6 +183,7 @@ impl Phase {
     }
 
     /// Whether messages to the dialogue are taken.
+    #[inline(always)]
     pub fn is_live(&self) -> bool
         ensures { result ≡ is_live (phase_view self.now) }
     {
@@ -201,6 +204,7 @@ impl Phase {
     }
 
     /// Whether no message was sent or received.
+    #[inline(always)]
     pub fn is_fresh(&self) -> bool
         ensures { result ≡ is_fresh (phase_view self.now) }
     {
@@ -211,6 +215,7 @@ impl Phase {
     }
 
     /// Whether a message of the peer was received, so that there is something to answer.
+    #[inline(always)]
     pub fn has_peer(&self) -> bool
         ensures { result ≡ has_peer (phase_view self.now) }
     {
@@ -221,6 +226,7 @@ impl Phase {
     }
 
     /// The peer of a Continue: the one known, or else its originator (Q.774, Transaction state machine).
+    #[inline(always)]
     pub fn peer_or<'a>(&'a self, origin: &'a TransId) -> &'a TransId
         ensures { result.now ≡ peer_by (phase_view self.now) origin.now }
     {

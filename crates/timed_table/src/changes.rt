@@ -1,5 +1,7 @@
 //! Changes of a table's rows and timers that several calls need.
 
+// Hints to inline: each step of an engine runs through it; docs/PERF.md says what the whole of it inlined gains.
+
 ghost use Rattle.std.specs.Prelude.{◌≡◌, ◌<◌, ◌≤◌, ◌++◌, [], ◌∷◌, IsSome, None, nat_eq, length, OnOk, OnErr, IfOk, IfErr};
 ghost use Rattle.std.specs.Map.{lookup};
 ghost use Rattle.slab.specs.Slab.{get, HasRoomFor};
@@ -12,6 +14,7 @@ use std::alloc::{AllocError, AllocFailed, Allocator};
 use timer_queue::{Timer, TimerQueue};
 
 /// The timer that stands for a time.
+#[inline(always)]
 pub(crate) fn timer_named(id: u32, time: Option<u64>) -> Option<Timer>
     ensures { result ≡ timer_named id time }
 {
@@ -22,6 +25,7 @@ pub(crate) fn timer_named(id: u32, time: Option<u64>) -> Option<Timer>
 }
 
 /// Adds items to the timers until there is one of this number.
+#[inline(always)]
 fn cover<A: Allocator + Copy>(timers: &mut TimerQueue<A>, key: usize) -> Result<(), AllocError>
     ensures extended { IsExtended timers.old timers.new }
     ensures ok { OnOk result (key < length timers.new) }
@@ -33,6 +37,7 @@ fn cover<A: Allocator + Copy>(timers: &mut TimerQueue<A>, key: usize) -> Result<
 }
 
 /// Makes room for one value more, and answers the key that it will have.
+#[inline(always)]
 fn make_room<T: Drop, A: Allocator + Copy>(
     values: &mut Slab<T, A>,
     timers: &mut TimerQueue<A>,
@@ -103,6 +108,7 @@ pub(crate) fn remove_row<T: Drop, A: Allocator + Copy>(
 }
 
 /// Writes the time of an identifier, if it has a row.
+#[inline(always)]
 pub(crate) fn time_row<T: Drop, A: Allocator + Copy>(
     values: &Slab<T, A>,
     keys: &mut Keys<A>,

@@ -1,5 +1,7 @@
 //! The values whose times are due.
 
+// Hints to inline: each step of an engine runs through it; docs/PERF.md says what the whole of it inlined gains.
+
 use slab::Slab;
 use std::alloc::{Allocator, Global};
 use timer_queue::Due;
@@ -18,6 +20,7 @@ impl<'a, T: Drop, A: Allocator + Copy> DueRows<'a, T, A> {
     ghost use Rattle.timed_table.specs.Due.{due_rows_left};
 
     /// The values at these keys.
+    #[inline(always)]
     pub(crate) fn new(keys: Due<'a>, values: &'a Slab<T, A>) -> Self
         ensures { due_rows_left result ≡ filter_map (get values.now) (due_left keys.entry) }
     {
@@ -35,6 +38,7 @@ impl<'a, T: Drop, A: Allocator + Copy> Iterator for DueRows<'a, T, A> {
 
     ghost remaining = { item_count due_rows_left };
 
+    #[inline(always)]
     fn next(&mut self) -> Option<&'a T> {
         while let Some(key) = self.keys.next() {
             if let Some(value) = self.values.get(key) {

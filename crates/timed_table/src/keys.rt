@@ -1,5 +1,7 @@
 //! The keys of the values by identifier.
 
+// Hints to inline: each step of an engine runs through it; docs/PERF.md says what the whole of it inlined gains.
+
 ghost use Rattle.std.specs.Prelude.{◌≡◌, ◌+◌, ◌++◌, ◌∷◌, [], ℕ, None, nat_eq, cond, is_some, if◌then◌else◌, length, IfNone, OnOk, OnErr};
 ghost use Rattle.timed_table.specs.Tied.{key_of};
 
@@ -40,6 +42,7 @@ impl<A: Allocator + Copy> Model for Keys<A> {
 
 impl<A: Allocator + Copy> Keys<A> {
     /// No identifiers; takes no memory.
+    #[inline(always)]
     pub(crate) fn new(alloc: A) -> Self
         ensures { result ≡ [] }
     {
@@ -74,6 +77,7 @@ impl<A: Allocator + Copy> Keys<A> {
     }
 
     /// The key of an identifier, which the next call for the same one finds at once.
+    #[inline(always)]
     pub(crate) fn find(&mut self, id: u32) -> Option<usize>
         ensures value { result ≡ key_of self.old id }
         ensures same { self.new ≡ self.old }
@@ -87,8 +91,6 @@ impl<A: Allocator + Copy> Keys<A> {
     }
 
     /// `find`, by the index.
-    // It stands once: mostly it isn't come to.
-    #[inline(never)]
     fn look_up(&mut self, id: u32) -> Option<usize>
         ensures value { result ≡ key_of self.old id }
         ensures same { self.new ≡ self.old }

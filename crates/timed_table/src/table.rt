@@ -1,5 +1,7 @@
 //! The table: values under rising identifiers, with a time beside each.
 
+// Hints to inline: each step of an engine runs through it; docs/PERF.md says what the whole of it inlined gains.
+
 ghost use Rattle.std.specs.Prelude.{◌≡◌, ◌++◌, ◌∷◌, [], ℕ, nat_eq, length, option_copied, OnOk, OnErr, IfErr, MatchOption};
 ghost use Rattle.std.specs.Map.{lookup, remove_entry};
 ghost use Rattle.timed_table.specs.Row.{AllBelow, IsRising, HasNoTime, IsFirst, entries_of, row_of, time_in, with_time, without, due_values};
@@ -47,6 +49,7 @@ impl<T: Drop, A: Allocator + Copy> Table<T, A> {
     ghost use Rattle.timed_table.specs.Row.{IsWritten};
 
     /// No rows; takes no memory.
+    #[inline(always)]
     pub fn new(alloc: A) -> Self
         ensures { result ≡ [] }
     {
@@ -80,6 +83,7 @@ impl<T: Drop, A: Allocator + Copy> Table<T, A> {
     }
 
     /// The value under an identifier, to be written; its row keeps its identifier and its time.
+    #[inline(always)]
     pub fn get_mut(&mut self, id: u32) -> Option<&mut T>
         ensures* writes_back { sem 𝓛 (LendsSo (the_row T.row A.row A.Allocator) T.row self.entry result
             (λ new w. IsWritten id w self.old new) (λ new. new ≡ self.old)) }
@@ -131,6 +135,7 @@ impl<T: Drop, A: Allocator + Copy> Table<T, A> {
     }
 
     /// Writes the time beside the value of an identifier, if there is one; takes no memory.
+    #[inline(always)]
     pub fn set_time(&mut self, id: u32, time: Option<u64>)
         ensures rows { self.new ≡ with_time id time self.old }
         ensures entries { entries_of self.new ≡ entries_of self.old }
@@ -139,6 +144,7 @@ impl<T: Drop, A: Allocator + Copy> Table<T, A> {
     }
 
     /// The least time, and of those who share it the least identifier.
+    #[inline(always)]
     pub fn first(&self) -> Option<(u64, u32)>
         ensures first { MatchOption result (HasNoTime self.now) (IsFirst self.now) }
         // What every table keeps.
@@ -150,6 +156,7 @@ impl<T: Drop, A: Allocator + Copy> Table<T, A> {
     }
 
     /// The values whose time is at or before a moment, each once, in no order; takes no memory.
+    #[inline(always)]
     pub fn due(&self, moment: u64) -> DueRows<'_, T, A>
         ensures { (weight : T → ℕ) → sum_by weight (due_rows_left result)
             ≡ sum_by weight (due_values moment self.now) }

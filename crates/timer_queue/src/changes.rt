@@ -1,5 +1,7 @@
 //! Changes of the heap that several calls need.
 
+// Hints to inline: each step of an engine runs through it; docs/PERF.md says what the whole of it inlined gains.
+
 ghost use Rattle.std.specs.Prelude.{◌≡◌, ◌<◌, ◌≤◌, ◌+◌, ◌++◌, [], ◌∷◌, None, ℕ, length, slice_set, MatchOption, vec_len, vec_capacity};
 ghost use Rattle.timer_queue.specs.Heap.{IsSound, IsOrdered, item_at, key_at};
 ghost use Rattle.timer_queue.specs.Queue.{HasNoTimer, IsFirst};
@@ -9,6 +11,7 @@ use crate::timer::Timer;
 use std::alloc::Allocator;
 
 /// Puts an item without a timer behind the others, in room that is there.
+#[inline(always)]
 pub(crate) fn push_item<A: Allocator>(
     heap: &mut Vec<usize, A>,
     places: &mut Vec<usize, A>,
@@ -28,7 +31,7 @@ pub(crate) fn push_item<A: Allocator>(
 }
 
 /// Writes the timer of an item, and brings the item to its new place.
-#[inline(never)]
+#[inline(always)]
 pub(crate) fn set_timer(
     heap: &mut [usize],
     places: &mut [usize],

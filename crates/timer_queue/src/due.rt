@@ -1,5 +1,7 @@
 //! The items that are due.
 
+// Hints to inline: each step of an engine runs through it; docs/PERF.md says what the whole of it inlined gains.
+
 ghost use Rattle.std.specs.Prelude.{◌≡◌, ◌<◌, ◌++◌, length};
 ghost use Rattle.timer_queue.specs.Order.{is_due, timer_at};
 ghost use Rattle.timer_queue.specs.Due.{is_due_place, downwards, below_place, after_place, from_place};
@@ -24,6 +26,7 @@ impl<'a> Due<'a> {
     ghost use Rattle.std.specs.Prelude.{map};
 
     /// The walk over what is due in a heap, from its first item on.
+    #[inline(always)]
     pub(crate) fn new(heap: &'a [usize], timers: &'a [Option<Timer>], moment: u64) -> Due<'a>
         ensures { due_left result
             ≡ map (item_at heap.now) (downwards (is_due_place moment heap.now timers.now) (length heap.now) 0) }
@@ -48,6 +51,7 @@ impl<'a> Iterator for Due<'a> {
 
     ghost remaining = { item_count due_left };
 
+    #[inline(always)]
     fn next(&mut self) -> Option<usize> {
         if self.place < self.heap.len() {
             let item = self.heap[self.place];
@@ -60,6 +64,7 @@ impl<'a> Iterator for Due<'a> {
 }
 
 /// Whether there is an item at a place of the heap, and it is due.
+#[inline(always)]
 fn is_due_place(heap: &[usize], timers: &[Option<Timer>], moment: u64, place: usize) -> bool
     ensures { result ≡ is_due_place moment heap.now timers.now place }
 {
@@ -71,6 +76,7 @@ fn is_due_place(heap: &[usize], timers: &[Option<Timer>], moment: u64, place: us
 }
 
 /// Whether the timer of an item is due.
+#[inline(always)]
 fn is_due(timers: &[Option<Timer>], moment: u64, item: usize) -> bool
     ensures { result ≡ is_due moment (timer_at timers.now item) }
 {
@@ -85,6 +91,7 @@ fn is_due(timers: &[Option<Timer>], moment: u64, item: usize) -> bool
 }
 
 /// The first place of the heap, if it is due; else a place past it.
+#[inline(always)]
 fn first_place(heap: &[usize], timers: &[Option<Timer>], moment: u64) -> usize
     ensures { from_place (is_due_place moment heap.now timers.now) (length heap.now) result
         ≡ downwards (is_due_place moment heap.now timers.now) (length heap.now) 0 }
@@ -97,6 +104,7 @@ fn first_place(heap: &[usize], timers: &[Option<Timer>], moment: u64) -> usize
 }
 
 /// The place that comes after one: the first below it, if that is due, and else what comes after all below it.
+#[inline(always)]
 fn next_place(heap: &[usize], timers: &[Option<Timer>], moment: u64, place: usize) -> usize
     requires { place < length heap.now }
     ensures { from_place (is_due_place moment heap.now timers.now) (length heap.now) result ≡
@@ -111,6 +119,7 @@ fn next_place(heap: &[usize], timers: &[Option<Timer>], moment: u64, place: usiz
 }
 
 /// A left place, if it is due, and else what comes after it.
+#[inline(always)]
 fn place_or_later(heap: &[usize], timers: &[Option<Timer>], moment: u64, place: usize) -> usize
     requires { place < length heap.now }
     ensures { from_place (is_due_place moment heap.now timers.now) (length heap.now) result ≡
@@ -125,6 +134,7 @@ fn place_or_later(heap: &[usize], timers: &[Option<Timer>], moment: u64, place: 
 
 /// The place that comes after one and all below it: of a left one the right one, if that is due, and else what
 /// comes after the place above.
+#[inline(always)]
 fn later_place(heap: &[usize], timers: &[Option<Timer>], moment: u64, place: usize) -> usize
     requires { place < length heap.now }
     ensures { from_place (is_due_place moment heap.now timers.now) (length heap.now) result

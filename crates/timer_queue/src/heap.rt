@@ -1,5 +1,7 @@
 //! The heap of items: order, and moving up and down.
 
+// Hints to inline: each step of an engine runs through it; docs/PERF.md says what the whole of it inlined gains.
+
 ghost use Rattle.std.specs.Prelude.{◌≡◌, ◌≢◌, ◌<◌, ◌+◌, ◌*◌, ◌≤◌, ℕ, false, length};
 ghost use Rattle.timer_queue.specs.Order.{comes_before, timer_at};
 ghost use Rattle.timer_queue.specs.Heap.{IsChild, IsOrdered, IsOrderedBut, IsFineBelow, IsFineAbove, IsTied, item_at, key_at, heap_swapped, heap_with, places_swapped, places_with};
@@ -29,6 +31,7 @@ fn parent_of(at: usize) -> usize
 }
 
 /// Puts the items at two places into each other's place.
+#[inline(always)]
 pub(crate) fn swap_places(heap: &mut [usize], places: &mut [usize], a: usize, b: usize)
     requires a { a < length heap.old }
     requires b { b < length heap.old }
@@ -46,6 +49,7 @@ pub(crate) fn swap_places(heap: &mut [usize], places: &mut [usize], a: usize, b:
 }
 
 /// Moves the item at a place up, as long as its timer is before that of the place above.
+#[inline(always)]
 pub(crate) fn sift_up(heap: &mut [usize], places: &mut [usize], timers: &[Option<Timer>], at: usize)
     requires at { at < length timers.now }
     requires tied { IsTied heap.old places.old (length timers.now) }
@@ -64,6 +68,7 @@ pub(crate) fn sift_up(heap: &mut [usize], places: &mut [usize], timers: &[Option
 }
 
 /// Of the two places below a place the one with the earlier timer; the first of them is there.
+#[inline(always)]
 fn least_child(heap: &[usize], timers: &[Option<Timer>], at: usize) -> usize
     requires first { 2 * at + 1 < length timers.now }
     requires as_many { length heap.now ≡ length timers.now }
@@ -84,6 +89,7 @@ fn least_child(heap: &[usize], timers: &[Option<Timer>], at: usize) -> usize
 
 /// Moves an item down from a place to where none is below it, past the earlier one of each two places below,
 /// and tells where it is then. The place is a hole until the item is put into the last one.
+#[inline(always)]
 fn sink(
     heap: &mut [usize],
     places: &mut [usize],
@@ -117,6 +123,7 @@ fn sink(
 
 /// Moves the item at a place down, if the timer of a place below is before its own: to the end, which takes
 /// one comparison a level, and then up to where it belongs, which is seldom far.
+#[inline(always)]
 pub(crate) fn sift_down(
     heap: &mut [usize],
     places: &mut [usize],
@@ -142,6 +149,7 @@ pub(crate) fn sift_down(
 }
 
 /// Brings the item at a place, whose timer changed, to where it belongs.
+#[inline(always)]
 pub(crate) fn sift(heap: &mut [usize], places: &mut [usize], timers: &[Option<Timer>], at: usize)
     requires at { at < length timers.now }
     requires tied { IsTied heap.old places.old (length timers.now) }

@@ -1,5 +1,7 @@
 //! The queue of timers.
 
+// Hints to inline: each step of an engine runs through it; docs/PERF.md says what the whole of it inlined gains.
+
 ghost use Rattle.std.specs.Prelude.{◌≡◌, ◌<◌, ◌++◌, [], ◌∷◌, None, OnOk, OnErr, MatchOption, length, slice_set};
 ghost use Rattle.timer_queue.specs.Order.{timer_at};
 ghost use Rattle.timer_queue.specs.Queue.{HasNoTimer, IsFirst};
@@ -45,6 +47,7 @@ impl<A: Allocator + Copy> TimerQueue<A> {
     ghost use Rattle.timer_queue.specs.Due.{due_items, due_left};
 
     /// No items; takes no memory.
+    #[inline(always)]
     pub fn new(alloc: A) -> Self
         ensures { result ≡ [] }
     {
@@ -64,6 +67,7 @@ impl<A: Allocator + Copy> TimerQueue<A> {
     }
 
     /// One item more, without a timer. All room that it will ever need is made.
+    #[inline(always)]
     pub fn add_item(&mut self) -> Result<(), AllocError>
         ensures ok { OnOk result (self.new ≡ self.old ++ None ∷ []) }
         ensures err { OnErr result (self.new ≡ self.old) }
@@ -116,6 +120,7 @@ impl<A: Allocator + Copy> TimerQueue<A> {
     }
 
     /// The items whose time is at or before a moment, each once; takes no memory.
+    #[inline(always)]
     pub fn due(&self, moment: u64) -> Due<'_>
         ensures { IsPermutation (due_items moment self.now) (due_left result) }
     {

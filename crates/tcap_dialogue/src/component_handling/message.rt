@@ -1,5 +1,7 @@
 //! The components of a message, one by one.
 
+// Hints to inline: each step of an engine runs through it; docs/PERF.md says what the whole of it inlined gains.
+
 ghost use Rattle.std.specs.Option.{option_map};
 ghost use Rattle.std.specs.Prelude.{◌≡◌, ◌+◌, ◌*◌, ◌≤◌, ◌++◌, ◌⊎◌, Option, IfSome, OnOk, length, vec_len, vec_capacity};
 ghost use Rattle.ber_core.specs.ListReading.{items_of};
@@ -30,6 +32,7 @@ const FEW: usize = 8;
 // taken for those behind a fault too. Else the components are counted: then neither room nor work goes beyond the
 // first fault.
 #[tactic(auto, using(crate::proofs::ItemLemmas::components_within))]
+#[inline(always)]
 pub(crate) fn room_for(components: &[u8]) -> usize
     ensures enough { length (components_of components.now) ≤ result }
     // No more than the components up to the first fault, or than the elements, where these are at most eight.
@@ -43,6 +46,7 @@ pub(crate) fn room_for(components: &[u8]) -> usize
 }
 
 /// How many elements there are, where they are few, and each has a tag and a length of one octet.
+#[inline(always)]
 fn short_count(components: &[u8]) -> Option<usize>
     ensures { IfSome result (λ count. (count ≡ length (items_of components.now)) × (count ≤ 8)) }
 {
@@ -124,6 +128,7 @@ fn has_reject_room<A: Allocator + Copy>(queue: &Queue<A>, count: usize) -> bool 
 }
 
 /// Queues a Reject, if there is one and it fits; there is room for it.
+#[inline(always)]
 fn queue_reject<A: Allocator + Copy>(queue: &mut Queue<A>, reject: Option<Reject>)
     requires octets { vec_len queue.old.octets + 8 ≤ vec_capacity queue.old.octets }
     requires part { vec_len queue.old.parts + 1 ≤ vec_capacity queue.old.parts }

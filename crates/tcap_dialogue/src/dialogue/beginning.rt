@@ -1,5 +1,7 @@
 //! What creates a dialogue: a Begin.
 
+// Hints to inline: each step of an engine runs through it; docs/PERF.md says what the whole of it inlined gains.
+
 ghost use Rattle.std.specs.Prelude.{◌≡◌, ℕ, ◌+◌, ◌*◌, ◌≤◌, None, Option, length, Some, true, false, option_copied, IfOk, IfSome, OnOk, OnErr, vec_len, vec_capacity};
 ghost use Rattle.ber_core.specs.ObjectIdentifier.{IsObjectIdentifier};
 ghost use Rattle.ber_core.specs.Place.{Slice};
@@ -26,6 +28,7 @@ use tcap_pdu::TransId;
 use tcap_primitives::{Context, Indication, Output, Queue, Sink, SinkKind};
 
 /// The context and the information of an AARQ or an AUDT, empty where there is none.
+#[inline(always)]
 pub(super) fn parts_of<'m>(pdu: Option<(&'m [u8], &'m [u8])>) -> (Option<&'m [u8]>, &'m [u8])
     ensures context { result.0 ≡ context_slice pdu.entry }
     ensures given { option_copied result.0 ≡ context_of_portion pdu.entry }
@@ -136,6 +139,7 @@ fn keep_names<A: Allocator + Copy>(
 impl<A: Allocator + Copy> Dialogue<A> {
     /// The Begin to the dialogue, in which nothing has happened: it is told with its components, the Rejects that
     /// answer them are queued, and the sender's address is kept. All room is found first.
+    #[inline(always)]
     fn begin_with<'m, K: SinkKind>(
         &mut self,
         from: &Address,

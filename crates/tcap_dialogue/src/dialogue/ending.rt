@@ -1,5 +1,7 @@
 //! The end of a dialogue.
 
+// Hints to inline: each step of an engine runs through it; docs/PERF.md says what the whole of it inlined gains.
+
 ghost use Rattle.std.specs.Prelude.{◌≡◌, ◌+◌, ◌≤◌, ◌++◌, Option, length};
 ghost use Rattle.ber_core.specs.Place.{Slice};
 ghost use Rattle.tcap_invocation.specs.Closing.{ended_at};
@@ -12,6 +14,7 @@ use tcap_primitives::{Indication, Sink, SinkKind};
 
 /// The dialogue is over: tells each of its invocations that is Queued or Sent as ended, by number, and
 /// takes it out; there is room for all of them.
+#[inline(always)]
 pub(crate) fn tell_ended<'m, A: Allocator + Copy, K: SinkKind>(
     dialogue: u32,
     invocations: &mut Invocations<A>,

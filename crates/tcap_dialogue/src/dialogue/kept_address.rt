@@ -56,7 +56,7 @@ impl<A: Allocator + Copy> fmt::Debug for KeptAddress<A> {
 
 impl<A: Allocator + Copy> KeptAddress<A> {
     /// The address of no octets.
-    #[inline]
+    #[inline(always)]
     pub(super) fn empty() -> Self
         ensures { result ≡ [] }
     {
@@ -85,7 +85,7 @@ impl<A: Allocator + Copy> KeptAddress<A> {
     }
 
     /// Its octets.
-    #[inline]
+    #[inline(always)]
     pub(super) fn octets(&self) -> &[u8]
         ensures value { result.now ≡ self.now }
         ensures within { length result.now ≤ 255 }

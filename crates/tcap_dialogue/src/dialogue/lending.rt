@@ -1,5 +1,7 @@
 //! How a dialogue takes memory that others left, and leaves its own.
 
+// Hints to inline: each step of an engine runs through it; docs/PERF.md says what the whole of it inlined gains.
+
 ghost use Rattle.std.specs.Prelude.{◌≡◌, ◌≤◌, Option, IfOk, IfSome, OnErr, OnOk, false, unwrap_or};
 ghost use Rattle.ber_core.specs.ObjectIdentifier.{IsObjectIdentifier};
 ghost use Rattle.ber_core.specs.Place.{Slice};
@@ -169,7 +171,6 @@ impl<A: Allocator + Copy> Dialogue<A> {
     }
 
     /// Leaves its memory to those that come: it is over, and not to be used any more.
-    #[inline(never)]
     pub fn leave_memory(&mut self, spares: &mut Spares<A>)
         ensures { self.new.standing.identifier ≡ self.old.standing.identifier }
     {
@@ -202,6 +203,7 @@ fn queues_component(request: &Request<'_>) -> bool {
 }
 
 /// Whether Rejects may answer components of a message: it is a Continue that has some.
+#[inline(always)]
 fn has_components(frame: &Frame<'_>) -> bool {
     match frame {
         Frame::Continue { components, .. } => !components.is_empty(),

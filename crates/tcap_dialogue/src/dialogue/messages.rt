@@ -1,5 +1,7 @@
 //! Messages to a dialogue, and faulty ones.
 
+// Hints to inline: each step of an engine runs through it; docs/PERF.md says what the whole of it inlined gains.
+
 ghost use Rattle.std.specs.Prelude.{◌≡◌, ◌≤◌, ◌<◌, vec_len, vec_capacity, Option, false, true, length, unwrap_or, option_copied, IfOk, OnOk, OnErr};
 ghost use Rattle.ber_core.specs.Place.{Slice};
 ghost use Rattle.tcap_primitives.specs.OutputViews.{cause_view};
@@ -31,6 +33,7 @@ use tcap_primitives::{Indication, Sink, SinkKind, Why};
 use tcap_reception::{After, Phase, PortionVerdict, judge_portion};
 
 /// The sender of a Continue to a dialogue in Sent is kept; later ones are not (our own).
+#[inline(always)]
 fn keep_sender<A: Allocator + Copy>(
     alloc: A,
     phase: &Phase,
@@ -50,6 +53,7 @@ fn keep_sender<A: Allocator + Copy>(
 impl<A: Allocator + Copy> Dialogue<A> {
     /// A Continue whose dialogue portion is as it should be: it is told with its components, and the
     /// Rejects that answer them are queued; the sender of the first is kept. All room is found first.
+    #[inline(always)]
     fn continue_normal<'m, K: SinkKind>(
         &mut self,
         from: &Address,
@@ -134,6 +138,7 @@ impl<A: Allocator + Copy> Dialogue<A> {
     }
 
     /// A Continue (Q.774, Dialogue continuation).
+    #[inline(always)]
     fn receive_continue<'m, K: SinkKind>(
         &mut self,
         from: &Address,
@@ -166,6 +171,7 @@ impl<A: Allocator + Copy> Dialogue<A> {
     }
 
     /// An End (Q.774, Dialogue end): the dialogue is over.
+    #[inline(always)]
     fn receive_end<'m, K: SinkKind>(
         &mut self,
         dialogue: Option<&'m [u8]>,

@@ -1,5 +1,7 @@
 //! What lapses with time, invocation by invocation, and how a dialogue ends that stays idle.
 
+// Hints to inline: each step of an engine runs through it; docs/PERF.md says what the whole of it inlined gains.
+
 ghost use Rattle.std.specs.Prelude.{◌≡◌, ◌≢◌, ◌≤◌, ◌+◌, ◌++◌, [], ◌∷◌, length, IfSome, IfOk, OnOk, OnErr};
 ghost use Rattle.tcap_dialogue.specs.Timers.{after_timer, earliest, expiry_by, first_by, idle_by, lapse_told, timer_of};
 ghost use Rattle.tcap_invocation.specs.Closing.{ended_at, first_ended_at, after_close_one};
@@ -31,6 +33,7 @@ pub enum Timer {
 }
 
 /// The earlier of two moments, of which each may be absent.
+#[inline(always)]
 fn earliest(first: Option<u64>, second: Option<u64>) -> Option<u64>
     ensures { result ≡ earliest first second }
 {
@@ -57,6 +60,7 @@ impl<A: Allocator + Copy> Dialogue<A> {
     /// The moment at which time next changes something: the least deadline of a Sent invocation or end of
     /// the wait of an identifier, or the moment at which the dialogue has been idle too long, in
     /// milliseconds, at most 2^63. Nothing where there is none. It takes no memory (own).
+    #[inline(always)]
     pub fn next_timer(&self) -> Option<u64>
         ensures { result ≡ earliest (next_timer_at self.now.invocations.rows) (idle_end self.now) }
     {
@@ -77,6 +81,7 @@ impl<A: Allocator + Copy> Dialogue<A> {
     }
 
     /// The moment at which the dialogue had been idle too long, if the clock has reached it.
+    #[inline(always)]
     fn idle_by(&self, clock: u64) -> Option<u64>
         ensures { result ≡ idle_by clock self.now }
     {

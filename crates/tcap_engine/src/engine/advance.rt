@@ -1,5 +1,7 @@
 //! `Engine::advance`: the clock goes to a moment, and what is due lapses or ends (own).
 
+// Hints to inline: each step of an engine runs through it; docs/PERF.md says what the whole of it inlined gains.
+
 ghost use Rattle.std.specs.Prelude.{◌≡◌, ◌≤◌, OnErr, false};
 ghost use Rattle.tcap_engine.specs.StepForm.{EngineAnswers, outputs_answer, since_answer};
 ghost use Rattle.tcap_engine.specs.HistoryForm.{Stands};
@@ -24,6 +26,7 @@ impl<A: Allocator + Copy> Engine<A> {
     /// at which it had, then dialogue: TC-P-ABORT indication, and each invocation that is left, by number;
     /// no message goes out (own). A moment below the clock does nothing. Faults: `MomentTooLate`,
     /// `OutOfMemory`.
+    #[inline(always)]
     pub fn advance<'m>(&mut self, now: u64) -> Result<Vec<Output<'m, A>, A>, Fault>
         ensures moves { EngineAnswers outputs_answer result
             (engine_move self.old (Event.moment now)) self.old self.new }
@@ -38,6 +41,7 @@ impl<A: Allocator + Copy> Engine<A> {
 
     /// `advance`, whose outputs are appended to what a sink holds.
     #[tactic(auto, using(crate::proofs::StandingLemmas::stands_after))]
+    #[inline(always)]
     pub(super) fn advance_with<'m, K: SinkKind>(
         &mut self,
         now: u64,
@@ -57,6 +61,7 @@ impl<A: Allocator + Copy> Engine<A> {
 
     /// `advance_with`, by the engine's move.
     #[tactic(auto, unfolding(tcap_model::specs::Table::EngineMove::engine_move))]
+    #[inline(always)]
     fn move_clock<'m, K: SinkKind>(
         &mut self,
         now: u64,
@@ -82,6 +87,7 @@ impl<A: Allocator + Copy> Engine<A> {
     }
 
     /// Whether a moment has reached the first timer of all.
+    #[inline(always)]
     fn has_reached(&self, now: u64) -> bool
         ensures { result ≡ false → IsAccepted self.now now → IsStill self.now now }
     {
@@ -89,6 +95,7 @@ impl<A: Allocator + Copy> Engine<A> {
     }
 
     /// The clock moves on to this moment.
+    #[inline(always)]
     fn expire<'m, K: SinkKind>(&mut self, now: u64, sink: &mut Sink<'m, A, K>) -> Result<(), Fault>
         requires late { now ≤ moment_limit }
         requires up { self.old.clock ≤ now }

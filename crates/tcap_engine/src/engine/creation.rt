@@ -1,5 +1,7 @@
 //! Dialogues that are created.
 
+// Hints to inline: each step of an engine runs through it; docs/PERF.md says what the whole of it inlined gains.
+
 ghost use Rattle.std.specs.Prelude.{◌≡◌, ◌<◌, ◌+◌, None, OnErr, OnOk, IfSome};
 ghost use Rattle.std.specs.Option.{option_map};
 ghost use Rattle.ber_core.specs.ObjectIdentifier.{IsObjectIdentifier};
@@ -26,6 +28,7 @@ impl<A: Allocator + Copy> Engine<A> {
     /// A new dialogue, in which nothing has happened: its identifier. Faults: `DialoguesFull`,
     /// `DialogueIdsSpent`, `OutOfMemory`.
     #[tactic(auto, using(crate::proofs::StandingLemmas::stands_after))]
+    #[inline(always)]
     pub fn new_dialogue(&mut self) -> Result<u32, Fault>
         ensures moves { EngineAnswers birth_answer result (engine_move self.old Event.new_dialogue) self.old self.new }
         ensures err { OnErr result (self.new ≡ self.old) }
@@ -37,6 +40,7 @@ impl<A: Allocator + Copy> Engine<A> {
 
     /// `new_dialogue`, by the engine's move.
     #[tactic(auto, using(crate::proofs::BirthLemmas::born_by), unfolding(tcap_model::specs::Table::EngineMove::engine_move))]
+    #[inline(always)]
     fn create(&mut self) -> Result<u32, Fault>
         ensures moves { EngineAnswers birth_answer result (engine_move self.old Event.new_dialogue) self.old self.new }
         ensures err { OnErr result (self.new ≡ self.old) }
@@ -50,6 +54,7 @@ impl<A: Allocator + Copy> Engine<A> {
     }
 
     /// A Begin creates a dialogue: what is told (Q.774, Dialogue begin).
+    #[inline(always)]
     pub(super) fn accept_begin<'m, K: SinkKind>(
         &mut self,
         from: &Address,
@@ -84,6 +89,7 @@ impl<A: Allocator + Copy> Engine<A> {
     }
 
     /// A dialogue under the next identifier, in which nothing has happened.
+    #[inline(always)]
     fn fresh(&self) -> Dialogue<A>
         ensures { result ≡ fresh_dialogue self.now.next_dialogue self.now.reject_ms self.now.idle_ms }
     {
@@ -116,6 +122,7 @@ impl<A: Allocator + Copy> Engine<A> {
     }
 
     /// Why no dialogue can be created, the first that holds.
+    #[inline(always)]
     pub(crate) fn birth_fault(&self) -> Option<Fault>
         ensures { option_map fault_view result ≡ birth_fault_in self.now }
     {
@@ -130,6 +137,7 @@ impl<A: Allocator + Copy> Engine<A> {
 }
 
 /// The identifier that is drawn after this one: no identifier is drawn twice.
+#[inline(always)]
 fn next_identifier(identifier: u32) -> u32
     requires { identifier < last_dialogue }
     ensures { result ≡ identifier + 1 }

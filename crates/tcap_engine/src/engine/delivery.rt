@@ -1,5 +1,7 @@
 //! Messages that reach a dialogue of the table, and faulty ones.
 
+// Hints to inline: each step of an engine runs through it; docs/PERF.md says what the whole of it inlined gains.
+
 ghost use Rattle.std.specs.Prelude.{◌≡◌, ◌≤◌, ◌++◌, nat_eq, true, [], OnOk, OnErr, IsSome};
 ghost use Rattle.std.specs.Map.{lookup};
 ghost use Rattle.tcap_dialogue.specs.StepViews.{at_clock, outcome};
@@ -21,6 +23,7 @@ use tcap_dialogue::{Address, Sink, SinkKind};
 use tcap_pdu::{Frame, FrameFault, TransId};
 
 /// A message to the dialogue of an identifier, which is taken out where it is over.
+#[inline(always)]
 pub(super) fn deliver_in<'m, A: Allocator + Copy, K: SinkKind>(
     table: &mut Dialogues<A>,
     identifier: u32,
@@ -79,6 +82,7 @@ pub(super) fn abort_in<'m, A: Allocator + Copy, K: SinkKind>(
 
 impl<A: Allocator + Copy> Engine<A> {
     /// A live dialogue takes a Continue, an End or an Abort (Q.774, Transaction sublayer procedures).
+    #[inline(always)]
     pub(super) fn deliver<'m, K: SinkKind>(
         &mut self,
         identifier: u32,

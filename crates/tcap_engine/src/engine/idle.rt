@@ -1,5 +1,7 @@
 //! The end of the dialogues that have been idle too long.
 
+// Hints to inline: each step of an engine runs through it; docs/PERF.md says what the whole of it inlined gains.
+
 ghost use Rattle.std.specs.Prelude.{◌≡◌, ◌≤◌, ◌+◌, ◌++◌, nat_eq, length};
 ghost use Rattle.std.specs.List.{flat_map};
 ghost use Rattle.std.specs.Map.{remove_entry};
@@ -31,6 +33,7 @@ fn end_one<'m, A: Allocator + Copy, K: SinkKind>(
 }
 
 /// The dialogues of these identifiers are over, earliest first; there is room for all that is told.
+#[inline(always)]
 pub(super) fn end_all<'m, A: Allocator + Copy, K: SinkKind>(
     table: &mut Dialogues<A>,
     ids: &[u32],

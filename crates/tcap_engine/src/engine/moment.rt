@@ -1,5 +1,7 @@
 //! What lapses at a moment in all dialogues, and which of them have been idle too long.
 
+// Hints to inline: each step of an engine runs through it; docs/PERF.md says what the whole of it inlined gains.
+
 ghost use Rattle.std.specs.Prelude.{◌≡◌, ◌≤◌, ◌+◌, ◌++◌, [], length, vec_capacity, ℕ, IfSome, IfNone, MatchOption};
 ghost use Rattle.tcap_engine.specs.IdleDialogues.{ends_in, idle_ids, left_by};
 ghost use Rattle.tcap_engine.specs.Lapsing.{IsFirstTimer, IsExpired, IsQuiet};
@@ -12,6 +14,7 @@ use std::alloc::Allocator;
 use tcap_dialogue::{Sink, SinkKind, Timer};
 
 /// The first timer of all that runs out by a moment, and its dialogue.
+#[inline(always)]
 fn first_timer_by<A: Allocator + Copy>(table: &Dialogues<A>, now: u64) -> Option<(u64, u32)>
     ensures first { MatchOption result (IsQuiet now table.now) (IsFirstTimer table.now) }
     ensures reached { IfSome result (λ first. first.0 ≤ now) }
@@ -50,6 +53,7 @@ fn expire_first<'m, A: Allocator + Copy, K: SinkKind>(
 
 /// Tells what lapses, earliest first, frees each identifier whose wait is over, and postpones the end of each
 /// dialogue that has been idle too long: these are the identifiers, earliest first. There is room for all.
+#[inline(always)]
 pub(super) fn tell_due<'m, A: Allocator + Copy, K: SinkKind>(
     table: &mut Dialogues<A>,
     now: u64,

@@ -1,6 +1,8 @@
 //! `Engine::receive`: bytes are read, and by what they are they are told, create a dialogue, reach the one that they
 //! name, or are aborted or dropped.
 
+// Hints to inline: each step of an engine runs through it; docs/PERF.md says what the whole of it inlined gains.
+
 ghost use Rattle.std.specs.Prelude.{◌≡◌, ◌++◌, ◌∷◌, [], None, is_some, option_copied, true, IfSome, OnOk, OnErr};
 ghost use Rattle.tcap_primitives.specs.AbortViews.{CanWriteAbort, abort_sent, cause_number};
 ghost use Rattle.tcap_primitives.specs.OutputViews.{drop_view};
@@ -30,6 +32,7 @@ impl<A: Allocator + Copy> Engine<A> {
     /// Bytes were received from an address: what is sent and told (Q.774, Transaction sublayer procedures). They
     /// are never refused, and something is always told of them; those above 65,535 are dropped. The only error
     /// is that memory was refused, and then nothing has changed.
+    #[inline(always)]
     pub fn receive<'m>(
         &mut self,
         from: &Address,
@@ -47,6 +50,7 @@ impl<A: Allocator + Copy> Engine<A> {
 
     /// `receive`, whose outputs are appended to what a sink holds.
     #[tactic(auto, using(crate::proofs::StandingLemmas::stands_into))]
+    #[inline(always)]
     pub(super) fn receive_with<'m, K: SinkKind>(
         &mut self,
         from: &Address,
@@ -65,6 +69,7 @@ impl<A: Allocator + Copy> Engine<A> {
 
     /// `receive_with`, by the engine's move.
     #[tactic(auto, unfolding(tcap_model::specs::Table::EngineMove::engine_move))]
+    #[inline(always)]
     fn receive_any<'m, K: SinkKind>(
         &mut self,
         from: &Address,
@@ -84,6 +89,7 @@ impl<A: Allocator + Copy> Engine<A> {
     }
 
     /// A message that can be read (Q.774, Transaction sublayer procedures).
+    #[inline(always)]
     fn take_message<'m, K: SinkKind>(
         &mut self,
         from: &Address,
@@ -143,6 +149,7 @@ impl<A: Allocator + Copy> Engine<A> {
 
     /// A Begin where a dialogue can be created: it is accepted or aborted, by its dialogue portion
     /// (Q.774, Dialogue begin).
+    #[inline(always)]
     fn take_begin<'m, K: SinkKind>(
         &mut self,
         from: &Address,
@@ -173,6 +180,7 @@ impl<A: Allocator + Copy> Engine<A> {
 
     /// The live dialogue that a destination names, by the four octets of its identifier; what is done to it then finds
     /// it at once.
+    #[inline(always)]
     pub(super) fn live_named(&mut self, destination: &TransId) -> Option<u32>
         ensures value { result ≡ addressed (is_live_in self.old.dialogues) destination.now }
         ensures live { IfSome result (λ dialogue. is_live_in self.old.dialogues dialogue ≡ true) }
@@ -187,6 +195,7 @@ impl<A: Allocator + Copy> Engine<A> {
     }
 
     /// Whether a dialogue stands and is live: in Sent or in Active.
+    #[inline(always)]
     fn is_live(&mut self, dialogue: u32) -> bool
         ensures live { result ≡ is_live_in self.old.dialogues dialogue }
         ensures same { self.new ≡ self.old }
@@ -198,6 +207,7 @@ impl<A: Allocator + Copy> Engine<A> {
     }
 
     /// The state of the dialogue with this identifier, if it stands.
+    #[inline(always)]
     fn find_state(&mut self, dialogue: u32) -> Option<State>
         ensures state { result ≡ state_in self.old dialogue }
         ensures same { self.new ≡ self.old }

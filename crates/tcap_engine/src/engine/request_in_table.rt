@@ -1,5 +1,7 @@
 //! Requests on the dialogue of an identifier.
 
+// Hints to inline: each step of an engine runs through it; docs/PERF.md says what the whole of it inlined gains.
+
 ghost use Rattle.std.specs.Prelude.{◌≡◌, ◌≤◌, nat_eq, IfOk, IfSome, OnErr};
 ghost use Rattle.std.specs.Map.{lookup};
 ghost use Rattle.tcap_dialogue.specs.AskViews.{Appends, AsksInto};
@@ -17,6 +19,7 @@ use std::alloc::Allocator;
 use tcap_dialogue::{Accepted, Dialogue, Fault, Request, Sink, SinkKind, Spares};
 
 /// Whether the dialogue is over.
+#[inline(always)]
 fn ends_dialogue(accepted: Accepted) -> bool
     ensures { result ≡ ends_dialogue accepted }
 {
@@ -28,6 +31,7 @@ fn ends_dialogue(accepted: Accepted) -> bool
 
 /// Whether the next timer of a dialogue is after the request what it was: a component is queued, and no identifier
 /// is freed.
+#[inline(always)]
 fn keeps_timer(request: &Request<'_>) -> bool
     ensures { result ≡ keeps_timer (request_view request.now) }
 {

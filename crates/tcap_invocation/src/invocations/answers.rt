@@ -1,5 +1,7 @@
 //! Received results and errors, by the operation class.
 
+// Hints to inline: each step of an engine runs through it; docs/PERF.md says what the whole of it inlined gains.
+
 ghost use Rattle.std.specs.Prelude.{◌≡◌, ◌≤◌};
 ghost use Rattle.tcap_invocation.specs.Class.{return_result};
 ghost use Rattle.tcap_invocation.specs.Class.Received.{return_error};
@@ -23,6 +25,7 @@ pub enum Verdict {
 
 impl<A: Allocator + Copy> Invocations<A> {
     /// A Return Result was received at this moment, at most 2^62; `last` tells Last from Not Last.
+    #[inline(always)]
     pub fn on_result(&mut self, id: i8, last: bool, clock: u64) -> Verdict
         requires { clock ≤ moment_limit }
         ensures verdict { result ≡ verdict_on self.old.rows id (return_result last) }

@@ -1,5 +1,7 @@
 //! What closes an invocation but an answer or time, and what frees its identifier.
 
+// Hints to inline: each step of an engine runs through it; docs/PERF.md says what the whole of it inlined gains.
+
 ghost use Rattle.std.specs.Prelude.{◌≡◌, ◌≢◌, ◌<◌, [], ◌∷◌, length, is_some, OnOk, OnErr, IfOk, IfSome};
 ghost use Rattle.tcap_invocation.specs.Invocations.{IsSound, entry_at, passing};
 ghost use Rattle.tcap_invocation.specs.Stage.{is_waiting};
@@ -59,6 +61,7 @@ impl<A: Allocator + Copy> Invocations<A> {
     }
 
     /// How many invocations are Queued or Sent: so many are told at the end of the dialogue.
+    #[inline(always)]
     pub fn open_count(&self) -> usize
         ensures { result ≡ length (ended_at self.now.rows) }
     {
@@ -67,6 +70,7 @@ impl<A: Allocator + Copy> Invocations<A> {
 
     /// The dialogue is over: takes out the first invocation that is Queued or Sent and gives its number
     /// and identifier, or nothing where there is none. It takes no memory.
+    #[inline(always)]
     pub fn close_one(&mut self) -> Option<(u64, i8)>
         ensures told { result ≡ first_ended_at self.old.rows }
         ensures list { self.new ≡ after_close_one self.old }
@@ -77,6 +81,7 @@ impl<A: Allocator + Copy> Invocations<A> {
     }
 
     /// `close_one`, row by row.
+    #[inline(always)]
     fn take_ended(&mut self) -> Option<(u64, i8)>
         ensures told { result ≡ first_ended_at self.old.rows }
         ensures list { self.new ≡ after_close_one self.old }
@@ -90,6 +95,7 @@ impl<A: Allocator + Copy> Invocations<A> {
 }
 
 /// What is told of an invocation at the end of the dialogue.
+#[inline(always)]
 pub(super) fn ended_of(id: &i8, entry: &Invocation) -> Option<(u64, i8)>
     ensures { result ≡ ended_of (id.now, entry.now) }
 {

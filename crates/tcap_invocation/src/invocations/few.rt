@@ -1,5 +1,7 @@
 //! Few invocations: they stand one after the other, in one block of memory.
 
+// Hints to inline: each step of an engine runs through it; docs/PERF.md says what the whole of it inlined gains.
+
 ghost use Rattle.std.specs.Prelude.{◌≡◌, ◌↔◌, ◌≤◌, ◌≢◌, ◌++◌, ◌∷◌, [], length, filter, option_copied, IsTrue, IfOk, OnOk, OnErr, Some};
 ghost use Rattle.std.specs.List.{position_from};
 ghost use Rattle.std.specs.Option.{option_map};
@@ -27,6 +29,7 @@ use std::alloc::{AllocError, Allocator};
 const FIRST: usize = 2;
 
 /// The invocation that has the identifier.
+#[inline(always)]
 pub(super) fn get<'a>(rows: &'a [Row], id: &i8) -> Option<&'a Invocation>
     ensures { option_copied result ≡ entry_at rows.now id.now }
 {
@@ -39,6 +42,7 @@ pub(super) fn get<'a>(rows: &'a [Row], id: &i8) -> Option<&'a Invocation>
 }
 
 /// Takes an invocation in, behind the others.
+#[inline(always)]
 pub(super) fn push<A: Allocator + Copy>(
     rows: &mut Vec<Row, A>,
     id: i8,
@@ -55,6 +59,7 @@ pub(super) fn push<A: Allocator + Copy>(
 }
 
 /// The place of the identifier.
+#[inline(always)]
 fn place_of(rows: &[Row], id: &i8) -> Option<usize>
     ensures { result ≡ position_from (λ r. int_eq id.now r.0) 0 rows.now }
 {
@@ -71,6 +76,7 @@ pub(super) fn take_out<A: Allocator + Copy>(rows: &mut Vec<Row, A>, id: &i8)
 }
 
 /// The invocation of the identifier is at this stage from now on.
+#[inline(always)]
 pub(super) fn set_stage<A: Allocator + Copy>(
     rows: &mut Vec<Row, A>,
     id: &i8,
@@ -86,6 +92,7 @@ pub(super) fn set_stage<A: Allocator + Copy>(
 }
 
 /// The message with the queued Invokes goes out at this moment: each gets its deadline.
+#[inline(always)]
 pub(super) fn send_queued<A: Allocator + Copy>(rows: &mut Vec<Row, A>, clock: u64)
     requires clock { clock ≤ moment_limit }
     requires order { AreInOrder rows.old.items }
@@ -99,6 +106,7 @@ pub(super) fn send_queued<A: Allocator + Copy>(rows: &mut Vec<Row, A>, clock: u6
 }
 
 /// The moment at which time next changes something.
+#[inline(always)]
 pub(super) fn next_timer(rows: &[Row]) -> Option<u64>
     ensures { result ≡ next_timer_at rows.now }
 {
@@ -116,6 +124,7 @@ pub(super) fn next_timer(rows: &[Row]) -> Option<u64>
 }
 
 /// How many Sent invocations have a deadline at most the clock.
+#[inline(always)]
 pub(super) fn due_count(rows: &[Row], clock: u64) -> usize
     ensures { result ≡ length (due_at clock rows.now) }
 {
@@ -156,6 +165,7 @@ struct First {
 }
 
 /// The first of those found so far and of that of an invocation at this place.
+#[inline(always)]
 fn nearer(first: Option<First>, place: usize, entry: &Invocation) -> Option<First>
     ensures { result ≡ nearer_at first place entry.now.stage }
 {
@@ -176,6 +186,7 @@ fn nearer(first: Option<First>, place: usize, entry: &Invocation) -> Option<Firs
 }
 
 /// The first timer, by its moment, then number.
+#[inline(always)]
 fn first_timer<A: Allocator + Copy>(rows: &Vec<Row, A>) -> Option<First>
     requires { AreInOrder rows.now.items }
     ensures { IsFirst rows.now.items result (first_of (timers_at rows.now.items)) }
@@ -188,6 +199,7 @@ fn first_timer<A: Allocator + Copy>(rows: &Vec<Row, A>) -> Option<First>
 }
 
 /// Takes out the invocation of the first timer, which lapses.
+#[inline(always)]
 fn take_first<A: Allocator + Copy>(rows: &mut Vec<Row, A>, first: First) -> Lapse
     requires first { IsFirst rows.old.items (Some first) (first_of (timers_at rows.old.items)) }
     requires sorted { AreSorted rows.old.items }
@@ -208,6 +220,7 @@ fn take_first<A: Allocator + Copy>(rows: &mut Vec<Row, A>, first: First) -> Laps
 }
 
 /// The first timer runs out, if its moment is at most the clock.
+#[inline(always)]
 pub(super) fn expire_first<A: Allocator + Copy>(
     rows: &mut Vec<Row, A>,
     clock: u64,
@@ -228,6 +241,7 @@ pub(super) fn expire_first<A: Allocator + Copy>(
 }
 
 /// Takes out each identifier whose wait is over at the clock.
+#[inline(always)]
 pub(super) fn free_due<A: Allocator + Copy>(rows: &mut Vec<Row, A>, clock: u64)
     ensures { rows.new.items ≡ filter (λ r. is_held clock r.1.stage) rows.old.items }
 {
@@ -279,6 +293,7 @@ fn due<A: Allocator + Copy>(
 }
 
 /// Whether each number is below this one.
+#[inline(always)]
 pub(super) fn are_below(rows: &[Row], number: u64) -> bool
     ensures { IsTrue result ↔ AllBelow number rows.now }
 {
@@ -286,6 +301,7 @@ pub(super) fn are_below(rows: &[Row], number: u64) -> bool
 }
 
 /// What is told first at the end of the dialogue.
+#[inline(always)]
 pub(super) fn first_ended(rows: &[Row]) -> Option<(u64, i8)>
     ensures { result ≡ first_ended_at rows.now }
 {
@@ -298,6 +314,7 @@ pub(super) fn first_ended(rows: &[Row]) -> Option<(u64, i8)>
 }
 
 /// How many invocations are Queued or Sent.
+#[inline(always)]
 pub(super) fn ended_count(rows: &[Row]) -> usize
     ensures { result ≡ length (ended_at rows.now) }
 {

@@ -1,5 +1,7 @@
 //! Invocations whose deadline has come (TC-L-CANCEL indication).
 
+// Hints to inline: each step of an engine runs through it; docs/PERF.md says what the whole of it inlined gains.
+
 ghost use Rattle.std.specs.Prelude.{◌≡◌, ◌≢◌, ◌<◌, [], ◌∷◌, length, OnOk, OnErr, IfOk, IfSome};
 ghost use Rattle.tcap_invocation.specs.Expiries.{RunsOut, first_expiry_at, after_expiry};
 ghost use Rattle.tcap_invocation.specs.Invocations.{IsSound};
@@ -44,6 +46,7 @@ impl<A: Allocator + Copy> Invocations<A> {
     /// The first timer by its moment, then number, runs out, if its moment is at most the clock: the invocation
     /// lapses, or each identifier whose wait is over at the clock is free. What it was of, or nothing where no moment
     /// is reached. It takes no memory.
+    #[inline(always)]
     pub fn expire_first(&mut self, clock: u64) -> Option<Expiry>
         ensures expiry { result ≡ first_expiry_at clock self.old.rows }
         ensures list { self.new ≡ after_expiry self.old clock result }
@@ -54,6 +57,7 @@ impl<A: Allocator + Copy> Invocations<A> {
     }
 
     /// `expire_first`, by the rows.
+    #[inline(always)]
     fn expire_row(&mut self, clock: u64) -> Option<Expiry>
         ensures expiry { result ≡ first_expiry_at clock self.old.rows }
         ensures list { self.new ≡ after_expiry self.old clock result }
@@ -63,6 +67,7 @@ impl<A: Allocator + Copy> Invocations<A> {
     }
 
     /// How many Sent invocations have a deadline at most the clock.
+    #[inline(always)]
     pub fn due_count(&self, clock: u64) -> usize
         ensures { result ≡ length (due_at clock self.now.rows) }
     {

@@ -49,6 +49,7 @@ impl<A: Allocator + Copy> Model for Rows<A> {
 
 impl<A: Allocator + Copy> Rows<A> {
     /// No invocation.
+    #[inline(always)]
     pub(super) fn new(alloc: A) -> Self
         ensures { result ≡ [] }
     {
@@ -64,6 +65,7 @@ impl<A: Allocator + Copy> Rows<A> {
     }
 
     /// Takes all out; the room stays.
+    #[inline(always)]
     pub(super) fn clear(&mut self)
         ensures { self.new ≡ [] }
     {
@@ -74,6 +76,7 @@ impl<A: Allocator + Copy> Rows<A> {
     }
 
     /// For how many there is memory.
+    #[inline(always)]
     pub(super) fn capacity(&self) -> usize
         ensures { min (length self.now) 256 ≤ result }
     {
@@ -84,6 +87,7 @@ impl<A: Allocator + Copy> Rows<A> {
     }
 
     /// The invocation that has the identifier.
+    #[inline(always)]
     pub(super) fn get(&self, id: &i8) -> Option<&Invocation>
         ensures entry { option_copied result ≡ entry_at self.now id.now }
         // What all rows keep.
@@ -96,6 +100,7 @@ impl<A: Allocator + Copy> Rows<A> {
     }
 
     /// Takes an invocation in that is Queued, under an identifier that is free and a number above all.
+    #[inline(always)]
     pub(super) fn push(&mut self, id: i8, entry: Invocation) -> Result<(), AllocError>
         requires { IsNew self.old id entry }
         ensures ok { OnOk result (self.new ≡ self.old ++ (id, entry) ∷ []) }
@@ -128,6 +133,7 @@ impl<A: Allocator + Copy> Rows<A> {
     }
 
     /// The identifier of an invocation that a result or an error closed waits for a Reject.
+    #[inline(always)]
     pub(super) fn wait(&mut self, id: &i8, entry: Invocation, until: u64)
         requires until { until ≤ 2 * moment_limit }
         requires found { sent_at self.old id.now ≡ Some entry }
@@ -140,6 +146,7 @@ impl<A: Allocator + Copy> Rows<A> {
     }
 
     /// The message with the queued Invokes goes out at this moment: each gets its deadline.
+    #[inline(always)]
     pub(super) fn send_queued(&mut self, clock: u64)
         requires { clock ≤ moment_limit }
         ensures { self.new ≡ sent_rows clock self.old }
@@ -151,6 +158,7 @@ impl<A: Allocator + Copy> Rows<A> {
     }
 
     /// The moment at which time next changes something.
+    #[inline(always)]
     pub(super) fn next_timer(&self) -> Option<u64>
         ensures { result ≡ next_timer_at self.now }
     {
@@ -161,6 +169,7 @@ impl<A: Allocator + Copy> Rows<A> {
     }
 
     /// How many Sent invocations have a deadline at most the clock.
+    #[inline(always)]
     pub(super) fn due_count(&self, clock: u64) -> usize
         ensures { result ≡ length (due_at clock self.now) }
     {
@@ -195,6 +204,7 @@ impl<A: Allocator + Copy> Rows<A> {
     }
 
     /// The first timer runs out, if its moment is at most the clock.
+    #[inline(always)]
     pub(super) fn expire_first(&mut self, clock: u64) -> Option<Expiry>
         ensures expiry { result ≡ first_expiry_at clock self.old }
         ensures rows { self.new ≡ rows_after clock self.old result }
@@ -218,6 +228,7 @@ impl<A: Allocator + Copy> Rows<A> {
     }
 
     /// Whether each number is below this one.
+    #[inline(always)]
     pub(super) fn are_below(&self, number: u64) -> bool
         ensures { IsTrue result ↔ AllBelow number self.now }
     {
@@ -228,6 +239,7 @@ impl<A: Allocator + Copy> Rows<A> {
     }
 
     /// What is told first at the end of the dialogue.
+    #[inline(always)]
     pub(super) fn first_ended(&self) -> Option<(u64, i8)>
         ensures told { result ≡ first_ended_at self.now }
         // What all rows keep.
@@ -240,6 +252,7 @@ impl<A: Allocator + Copy> Rows<A> {
     }
 
     /// How many invocations are Queued or Sent.
+    #[inline(always)]
     pub(super) fn ended_count(&self) -> usize
         ensures { result ≡ length (ended_at self.now) }
     {

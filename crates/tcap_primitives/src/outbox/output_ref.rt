@@ -1,5 +1,7 @@
 //! An output as it is read in an outbox.
 
+// Hints to inline: each step of an engine runs through it; docs/PERF.md says what the whole of it inlined gains.
+
 ghost use Rattle.std.specs.Prelude.{◌≡◌, option_map, option_copied};
 ghost use Rattle.tcap_component.specs.Views.{code_parts, body_parts};
 ghost use Rattle.tcap_pdu.specs.DialogueViews.{pdu_value};
@@ -131,7 +133,7 @@ pub fn abort_of(octets: &[u8], pdu: Option<PduRecord>) -> Option<DialoguePdu<'_>
 }
 
 /// The output of a record.
-#[inline]
+#[inline(always)]
 pub(super) fn output_of<'o>(octets: &'o [u8], kept: &Record) -> OutputRef<'o>
     requires { RecordFits octets.now kept.now }
     ensures { output_ref_view result ≡ output_read octets.now kept.now }

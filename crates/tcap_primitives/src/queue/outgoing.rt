@@ -1,5 +1,7 @@
 //! The queue that goes out with a message.
 
+// Hints to inline: each step of an engine runs through it; docs/PERF.md says what the whole of it inlined gains.
+
 ghost use Rattle.std.specs.Prelude.{◌≡◌, []};
 ghost use Rattle.std.specs.List.{list_all};
 ghost use Rattle.std.specs.Option.{option_map};
@@ -29,6 +31,7 @@ fn all_go_alone(parts: &[Part]) -> bool
 
 impl<A: Allocator + Copy> Queue<A> {
     /// The octets of all components.
+    #[inline(always)]
     pub fn all_octets(&self) -> &[u8]
         ensures { result.now ≡ joined (queue_view self.now) }
     {
@@ -43,6 +46,7 @@ impl<A: Allocator + Copy> Queue<A> {
     }
 
     /// Takes everything out; the room stays.
+    #[inline(always)]
     pub fn clear(&mut self)
         ensures { queue_view self.new ≡ [] }
     {

@@ -1,5 +1,7 @@
 //! Whether a component comes into the queue, and room for it.
 
+// Hints to inline: each step of an engine runs through it; docs/PERF.md says what the whole of it inlined gains.
+
 // Inlined into each request that queues a component, whose kind is known there: so the match on it folds away,
 // 360 to 570 instructions a step.
 
@@ -73,6 +75,7 @@ impl<A: Allocator + Copy> Queue<A> {
     }
 
     /// Makes room for this many Rejects.
+    #[inline(always)]
     pub fn reserve_rejects(&mut self, count: usize) -> Result<(), AllocError>
         ensures same { queue_view self.new ≡ queue_view self.old }
         ensures octets { OnOk result (vec_len self.new.octets + 8 * count ≤ vec_capacity self.new.octets) }

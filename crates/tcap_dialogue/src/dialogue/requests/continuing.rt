@@ -49,6 +49,7 @@ impl<A: Allocator + Copy> Dialogue<A> {
     }
 
     /// The first fault of a Continue that is due before its message is written.
+    #[inline(always)]
     fn continue_fault(&self, request: &ContinueRequest<'_>) -> Option<Fault>
         ensures { let r = Request.dialogue (continue_view request.now) in option_map fault_view result
             ≡ first_that (holds (situation (asked 0 0) self.now r) r) early_faults }

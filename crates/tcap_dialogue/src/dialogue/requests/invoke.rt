@@ -27,6 +27,7 @@ use tcap_invocation::{Class, MAX_MOMENT};
 use tcap_primitives::{CancelRequest, Fault, InvokeRequest, Invoking};
 
 /// Whether a timeout is neither 0 nor above the limit.
+#[inline(always)]
 fn is_timeout(timeout_ms: u64) -> bool
     ensures { result ≡ (nat_lt 0 timeout_ms && nat_le timeout_ms moment_limit) }
 {
@@ -34,6 +35,7 @@ fn is_timeout(timeout_ms: u64) -> bool
 }
 
 /// Whether a component that was judged so can be written: at most room for it is missing.
+#[inline(always)]
 fn is_spelled(judged: Result<usize, Fault>) -> bool
     ensures { IsTrue result ↔ IfErr judged (λ f. f ≡ fault.TooLong) }
 {

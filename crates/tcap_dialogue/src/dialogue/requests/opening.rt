@@ -56,6 +56,7 @@ impl<A: Allocator + Copy> Dialogue<A> {
     }
 
     /// The first fault of a Begin that is due before its message is written.
+    #[inline(always)]
     fn begin_fault(&self, request: &BeginRequest<'_>) -> Option<Fault>
         ensures { let r = Request.dialogue (begin_view request.now) in option_map fault_view result
             ≡ first_that (holds (situation (asked 0 0) self.now r) r) early_faults }

@@ -31,6 +31,7 @@ use tcap_primitives::{Fault, Outgoing, Sending, Sink, SinkKind, answering_pdu};
 use tcap_reception::Phase;
 
 /// Whether a context that is given is an object identifier.
+#[inline(always)]
 pub(super) fn is_name_good(context: Option<&[u8]>) -> bool
     ensures { result ≡ can_name (option_copied context.entry) }
 {
@@ -41,6 +42,7 @@ pub(super) fn is_name_good(context: Option<&[u8]>) -> bool
 }
 
 /// Whether there is something.
+#[inline(always)]
 pub(super) fn is_filled(bytes: &[u8]) -> bool
     ensures { result ≡ is_filled bytes.now }
 {
@@ -51,6 +53,7 @@ pub(super) fn is_filled(bytes: &[u8]) -> bool
 }
 
 /// Whether user information is given without a context.
+#[inline(always)]
 pub(super) fn lacks_context(context: Option<&[u8]>, info: &[u8]) -> bool
     ensures { result ≡ lacks_context (option_copied context.entry) info.now }
 {
@@ -58,6 +61,7 @@ pub(super) fn lacks_context(context: Option<&[u8]>, info: &[u8]) -> bool
 }
 
 /// Whether a context or user information is given.
+#[inline(always)]
 pub(super) fn gives_any(context: Option<&[u8]>, info: &[u8]) -> bool
     ensures { result ≡ gives_any (option_copied context.entry) info.now }
 {
@@ -66,6 +70,7 @@ pub(super) fn gives_any(context: Option<&[u8]>, info: &[u8]) -> bool
 
 impl<A: Allocator + Copy> Dialogue<A> {
     /// Whether a Begin with an AARQ was received and isn't answered yet.
+    #[inline(always)]
     pub(super) fn is_asked(&self) -> bool
         ensures { result ≡ is_asked self.now.standing.state self.now.standing.context }
     {
@@ -114,6 +119,7 @@ impl<A: Allocator + Copy> Dialogue<A> {
     }
 
     /// A message with the queue goes out at this moment.
+    #[inline(always)]
     pub(super) fn send_queue(&mut self, clock: u64)
         requires { clock ≤ moment_limit }
         ensures { self.new ≡ gone_out (asked clock 0) self.old }
