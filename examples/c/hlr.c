@@ -41,12 +41,12 @@ static void update_location(struct node *node, const tcap_output *invoke) {
   }
   for (size_t i = 0; i < UPDATES; i++) {
     if (updates[i].dialogue) continue;
-    if (is_done(node, "invoke", tcap_invoke(node->engine, invoke->dialogue, 1, TCAP_NO_ID, 1,
-                                            local(INSERT_SUBSCRIBER_DATA), data, 5000, &number))) {
-      say(node, "sends the data of subscriber %02X", (unsigned)subscriber);
-      updates[i].dialogue = invoke->dialogue;
-      updates[i].invoke_id = invoke->invoke_id;
-    }
+    if (!is_done(node, "invoke", tcap_invoke(node->engine, invoke->dialogue, 1, TCAP_NO_ID, 1,
+                                             local(INSERT_SUBSCRIBER_DATA), data, 5000, &number)))
+      break; /* as where the dialogue has an update that waits already */
+    say(node, "sends the data of subscriber %02X", (unsigned)subscriber);
+    updates[i].dialogue = invoke->dialogue;
+    updates[i].invoke_id = invoke->invoke_id;
     return;
   }
   is_done(node, "reject", tcap_u_reject(node->engine, invoke->dialogue, invoke->invoke_id,
