@@ -66,8 +66,8 @@ const char *tcap_status_text(tcap_status status) {
       "the invoke identifier is in use", "no such invocation", "bad timeout", "too long",
       "as many dialogues stand as may", "no dialogue identifier is left", "no invocation number is left",
       "not an object identifier", "bad parameter", "not of class 4 alone", "the moment is too late", "no context",
-      "bad argument"};
-  return (size_t)status < sizeof texts / sizeof *texts ? texts[status] : "no status of this library";
+      "bad argument", [TCAP_ROOM_TOO_SMALL] = "the room is too small"};
+  return (size_t)status < sizeof texts / sizeof *texts && texts[status] ? texts[status] : "no status of this library";
 }
 
 /* ---- events. IF: the status of a call whose arguments are there; AT: of one behind its moment; O: two arguments */

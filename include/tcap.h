@@ -12,7 +12,8 @@
  * Refusals. A call that answers another status than TCAP_OK has changed nothing, and wrote nothing.
  *   But a call that takes `now_ms` is two events, the moment and then the call: where the call is
  *   refused, the clock may stand at that moment, and what was due then waits, as by tcap_advance.
- *   Only NULL, and a length beside a pointer that is NULL, are seen before the moment.
+ *   Seen before the moment are only NULL, a length beside a pointer that is NULL, and an address of
+ *   tcap_receive above 255 octets.
  *   TCAP_OUT_OF_MEMORY is such a refusal: the same call may be made again, now or later.
  * Octets. What you pass is copied during the call. What tcap_next answers, and all it points to, is
  *   valid until the next tcap_next or tcap_close of that engine, whatever other calls you make.
@@ -102,7 +103,8 @@ typedef enum {
   TCAP_NOT_CLASS_FOUR = 13,    /* a Unidirectional has no component, or an Invoke of class 1 to 3 */
   TCAP_MOMENT_TOO_LATE = 14,   /* the moment is above 2^62 */
   TCAP_NO_CONTEXT = 15,        /* a context or user information, and no dialogue portion for it */
-  TCAP_BAD_ARGUMENT = 16       /* an argument is NULL or out of its range: a fault of the program */
+  TCAP_BAD_ARGUMENT = 16,      /* an argument is NULL or out of its range: a fault of the program */
+  TCAP_ROOM_TOO_SMALL = 19     /* of tcap_codec.h alone: what is given has more octets than the room */
 } tcap_status;
 
 /* How far a dialogue is (Q.774, Transaction state machine). */
@@ -159,10 +161,12 @@ typedef struct {
                            * message is longer is refused. An Abort that the engine answers to a
                            * message goes out all the same: up to 350 octets, by its context */
   uint64_t reject_ms;     /* how long an invoke identifier waits for a Reject, at most 2^62 */
-  uint64_t idle_ms;       /* how long a dialogue may stand still, at most 2^62; 0: for ever */
+  uint64_t idle_ms;       /* how long a dialogue in Initiation Sent or Active may stand still, at most
+                           * 2^62; 0: for ever. In Idle and Initiation Received it may for ever:
+                           * answer or abort the dialogue of each TCAP_BEGIN_IND */
   uint32_t first_dialogue; /* the identifier of the first dialogue, not 0: another range for each
-                            * engine behind one address */
-  uint64_t first_number;   /* the number of the first invocation, not 0 */
+                            * engine behind one address; at UINT32_MAX none is left */
+  uint64_t first_number;   /* the number of the first invocation, not 0; at UINT64_MAX none is left */
 } tcap_limits;
 
 /* The limits that you get where you set none. */
@@ -226,7 +230,8 @@ TCAP_MUST_CHECK tcap_status tcap_invoke(tcap *engine, uint32_t dialogue, int inv
                                         uint64_t *number);
 
 /* TC-RESULT-L request: the last or only result of an Invoke of the peer. `operation`: TCAP_NO_CODE
- * where there is no parameter. TCAP_WRONG_STATE, TCAP_BAD_OID, TCAP_BAD_PARAMETER. */
+ * where there is no parameter either; one without a parameter is sent as it is.
+ * TCAP_WRONG_STATE, TCAP_BAD_OID, TCAP_BAD_PARAMETER. */
 TCAP_MUST_CHECK tcap_status tcap_result_l(tcap *engine, uint32_t dialogue, int invoke_id,
                                           tcap_code operation, tcap_octets parameter);
 

@@ -17,9 +17,6 @@
 extern "C" {
 #endif
 
-/* Beside the statuses of tcap.h: what is given has more octets than the room. */
-#define TCAP_ROOM_TOO_SMALL ((tcap_status)19)
-
 /* The transaction identifiers at the front of a message (Q.773, Transaction ID). */
 struct tcap_ids {
   uint8_t origin[4];       /* the originating one: its octets from the front on, 0 behind them */

@@ -51,4 +51,4 @@ IDS(origin, 0);
 IDS(destination, 4);
 IDS(origin_len, 8);
 IDS(destination_len, 9);
-static_assert(TCAP_ROOM_TOO_SMALL == 19, "stands beside the statuses of an engine");
+static_assert(TCAP_ROOM_TOO_SMALL == 19, "behind those of an engine, with two numbers between");

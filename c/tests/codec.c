@@ -156,6 +156,8 @@ static void nulls(void) {
   NEED(tcap_oid_to_text(TEXT("\x2A"), text_room, 64, NULL) == TCAP_BAD_ARGUMENT);
   NEED(len == 4711 && is_good == 7 && text_room[0] == '#' && room[0] == 0);
   NEED(tcap_oid_from_text(TEXT("1.2"), NULL, 0, &len) == TCAP_ROOM_TOO_SMALL && len == 1);
+  NEED(!strcmp(tcap_status_text(TCAP_ROOM_TOO_SMALL), "the room is too small"));
+  NEED(!strcmp(tcap_status_text((tcap_status)17), "no status of this library"));
   NEED(tcap_front(NOTHING, &ids) == TCAP_OK && !ids.origin_len && !ids.destination_len);
   rows++;
 }
