@@ -1,8 +1,8 @@
 /* tcap_c.h: the exports of crates/tcap_c, which c/tcap.c alone calls, and what they call.
  *
  * Octets are a pointer, never NULL, and a length. A number out of its range is TCAP_C_BAD_ARGUMENT.
- * Each export is one event, one output that is taken or one getter; the clock moves by tcap_c_advance
- * and, before octets are received, by tcap_c_receive. A call that doesn't answer TCAP_C_OK has changed
+ * Each export is one event, one output that is taken or one getter, but tcap_c_receive two events: the
+ * clock moves by tcap_c_advance and, before octets are received, by that. A call that doesn't answer TCAP_C_OK has changed
  * and written nothing, but that of tcap_c_receive the clock may have moved. */
 #ifndef TCAP_C_H
 #define TCAP_C_H

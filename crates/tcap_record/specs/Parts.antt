@@ -29,11 +29,11 @@ long number = to_be_bytes w64 number
 abbrev pub long_at : List ℕ → Reading ℕ
 long_at octets = number_at w64 octets
 
--- A number below 100: one octet (own).
+-- A number below 256: one octet (own).
 abbrev pub octet : ℕ → List ℕ
 octet number = number ∷ []
 
--- A number below 100, read (own).
+-- A number below 256, read (own).
 abbrev pub octet_at : List ℕ → Reading ℕ
 octet_at octets = named_at Some octets
 
