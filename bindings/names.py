@@ -48,10 +48,11 @@ def compare(what: str, here: object, there: object) -> None:
 
 
 def numbers_of(enum: str, prefix: str) -> dict[str, int]:
-    """The names and numbers of an enumeration of tcap.h."""
+    """The names and numbers of an enumeration of tcap.h, but the room that is too small: who calls the packages sees it never."""
     found = re.search(r"typedef enum \{([^}]*)\} " + enum + ";", HEADER)
     assert found, enum
-    return {name[len(prefix) :]: int(value, 0) for name, value in re.findall(r"(\w+) = (\w+)", found.group(1))}
+    of_enum = {name[len(prefix) :]: int(value, 0) for name, value in re.findall(r"(\w+) = (\w+)", found.group(1))}
+    return {name: number for name, number in of_enum.items() if name != "ROOM_TOO_SMALL"}
 
 
 def constants_of(module: str) -> dict[str, int]:
