@@ -125,7 +125,6 @@ impl<A: Allocator + Copy> Dialogues<A> {
 
     /// How much room the answer to a moment needs, as far as a `usize` can tell: none for outputs where
     /// nothing is told.
-    #[inline(always)]
     pub(crate) fn capacity_at(&self, now: u64) -> Capacity
         ensures enough { length (all_told now (dialogues_of self.now)) + length
             (all_idle_told now (dialogues_of self.now)) ≤ result.told ⊎ (result.told ≡ 2 ^ 64 - 1) }

@@ -26,7 +26,6 @@ impl<A: Allocator + Copy> Engine<A> {
     /// at which it had, then dialogue: TC-P-ABORT indication, and each invocation that is left, by number;
     /// no message goes out (own). A moment below the clock does nothing. Faults: `MomentTooLate`,
     /// `OutOfMemory`.
-    #[inline(always)]
     pub fn advance<'m>(&mut self, now: u64) -> Result<Vec<Output<'m, A>, A>, Fault>
         ensures moves { EngineAnswers outputs_answer result
             (engine_move self.old (Event.moment now)) self.old self.new }

@@ -1,7 +1,5 @@
 //! The requests of component handling (Q.771, Component handling).
 
-// Hints to inline: each step of an engine runs through it; docs/PERF.md says what the whole of it inlined gains.
-
 ghost use Rattle.std.specs.Prelude.{◌≡◌, option_copied, OnErr};
 ghost use Rattle.std.specs.Option.{option_map};
 ghost use Rattle.tcap_component.specs.Views.{body_parts, code_parts, problem_parts};
@@ -27,7 +25,6 @@ impl<A: Allocator + Copy> Engine<A> {
     /// 127, `parameter` is the octets of one element, `timeout_ms` is 1 to 2^62 milliseconds. Faults:
     /// `UnknownDialogue`, `BadTimeout`, `BadOid`, `BadParameter`, `InvokeIdInUse`, `NumbersSpent`,
     /// `TooLong`, `OutOfMemory`.
-    #[inline(always)]
     pub fn invoke(
         &mut self,
         dialogue: u32,
@@ -59,7 +56,6 @@ impl<A: Allocator + Copy> Engine<A> {
 
     /// TC-RESULT-L request: the last or only result of an invocation of the peer, -128 to 127, is queued.
     /// Faults: `UnknownDialogue`, `WrongState`, `BadOid`, `BadParameter`, `TooLong`, `OutOfMemory`.
-    #[inline(always)]
     pub fn result_last(
         &mut self,
         dialogue: u32,

@@ -28,7 +28,6 @@ impl<A: Allocator + Copy> Engine<A> {
     /// A new dialogue, in which nothing has happened: its identifier. Faults: `DialoguesFull`,
     /// `DialogueIdsSpent`, `OutOfMemory`.
     #[tactic(auto, using(crate::proofs::StandingLemmas::stands_after))]
-    #[inline(always)]
     pub fn new_dialogue(&mut self) -> Result<u32, Fault>
         ensures moves { EngineAnswers birth_answer result (engine_move self.old Event.new_dialogue) self.old self.new }
         ensures err { OnErr result (self.new ≡ self.old) }

@@ -1,7 +1,5 @@
 //! The requests of dialogue handling (Q.771, Dialogue handling).
 
-// Hints to inline: each step of an engine runs through it; docs/PERF.md says what the whole of it inlined gains.
-
 ghost use Rattle.std.specs.Prelude.{◌≡◌, option_copied, OnErr};
 ghost use Rattle.tcap_primitives.specs.RequestViews.{ending_view, reason_view, request_view};
 ghost use Rattle.tcap_engine.specs.AnswerKinds.{AnswerKind, kind_of};
@@ -50,7 +48,6 @@ impl<A: Allocator + Copy> Engine<A> {
     /// identifier, not its dotted text. Faults: `UnknownDialogue`, `WrongState`
     /// unless Fresh, `BadOid`, `BadParameter`, `NoContext` for information without a context, `TooLong`,
     /// `OutOfMemory` (Q.774, Dialogue begin).
-    #[inline(always)]
     pub fn begin<'m>(
         &mut self,
         dialogue: u32,
@@ -76,7 +73,6 @@ impl<A: Allocator + Copy> Engine<A> {
     /// not its dotted text. Faults: `UnknownDialogue`, `WrongState` unless
     /// Received or Active, `BadOid`, `BadParameter`, `NoContext` for a context or information where no AARQ
     /// is answered, `TooLong`, `OutOfMemory` (Q.774, Dialogue continuation).
-    #[inline(always)]
     pub fn go_on<'m>(
         &mut self,
         dialogue: u32,
@@ -100,7 +96,6 @@ impl<A: Allocator + Copy> Engine<A> {
     /// the dialogue is over, and each invocation that is left is told as ended. `context` is the contents octets
     /// of its object identifier, not its dotted text. Faults: `UnknownDialogue`,
     /// `WrongState`, `BadOid`, `BadParameter`, `NoContext`, `TooLong`, `OutOfMemory` (Q.774, Dialogue end).
-    #[inline(always)]
     pub fn finish<'m>(
         &mut self,
         dialogue: u32,

@@ -1,7 +1,5 @@
 //! What is seen of an engine.
 
-// Hints to inline: each step of an engine runs through it; docs/PERF.md says what the whole of it inlined gains.
-
 ghost use Rattle.std.specs.Prelude.{◌≡◌, ℕ, [], true, false, option_copied};
 ghost use Rattle.tcap_engine.specs.StateOf.{state_in, state_in_life};
 ghost use Rattle.tcap_engine.specs.NextTimer.{IsAccepted, IsChanged, IsStill, next_timer_in};
@@ -38,7 +36,6 @@ impl<A: Allocator + Copy> Engine<A> {
 
     /// The least moment, in milliseconds, at which `advance` tells something, frees an identifier or ends a
     /// dialogue; `None` where none is. A caller may sleep until then. It takes no memory (our own).
-    #[inline(always)]
     pub fn next_timer(&self) -> Option<u64>
         ensures value { result ≡ next_timer_in self.now }
         // A moment below it does nothing but set the clock; one from it on changes a dialogue.

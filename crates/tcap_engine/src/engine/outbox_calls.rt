@@ -1,7 +1,5 @@
 //! The calls whose outputs are appended to an outbox: each does what the call of its name without `_into` does.
 
-// Hints to inline: each step of an engine runs through it; docs/PERF.md says what the whole of it inlined gains.
-
 ghost use Rattle.std.specs.Prelude.{◌≡◌, option_copied, OnErr};
 ghost use Rattle.tcap_engine.specs.AnswerKinds.{AnswerKind, kind_of};
 ghost use Rattle.tcap_engine.specs.StepForm.{EngineAnswers, EngineReceives, since_answer};
@@ -28,7 +26,6 @@ use tcap_dialogue::{
 impl<A: Allocator + Copy> Engine<A> {
     /// `receive`, into an outbox.
     #[tactic(auto, using(crate::proofs::StandingLemmas::kept_into))]
-    #[inline(always)]
     pub fn receive_into(
         &mut self,
         from: &Address,
@@ -51,7 +48,6 @@ impl<A: Allocator + Copy> Engine<A> {
     }
 
     /// `advance`, into an outbox.
-    #[inline(always)]
     pub fn advance_into(&mut self, now: u64, outbox: &mut Outbox<A>) -> Result<(), Fault>
         ensures moves { EngineAnswers (since_answer outbox.old.outputs outbox.new.outputs) result
             (engine_move self.old (Event.moment now)) self.old self.new }
@@ -95,7 +91,6 @@ impl<A: Allocator + Copy> Engine<A> {
     }
 
     /// `begin`, into an outbox.
-    #[inline(always)]
     pub fn begin_into(
         &mut self,
         dialogue: u32,
@@ -122,7 +117,6 @@ impl<A: Allocator + Copy> Engine<A> {
     }
 
     /// `go_on`, into an outbox.
-    #[inline(always)]
     pub fn go_on_into(
         &mut self,
         dialogue: u32,
@@ -148,7 +142,6 @@ impl<A: Allocator + Copy> Engine<A> {
     }
 
     /// `finish`, into an outbox.
-    #[inline(always)]
     pub fn finish_into(
         &mut self,
         dialogue: u32,

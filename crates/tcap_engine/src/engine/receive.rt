@@ -32,7 +32,6 @@ impl<A: Allocator + Copy> Engine<A> {
     /// Bytes were received from an address: what is sent and told (Q.774, Transaction sublayer procedures). They
     /// are never refused, and something is always told of them; those above 65,535 are dropped. The only error
     /// is that memory was refused, and then nothing has changed.
-    #[inline(always)]
     pub fn receive<'m>(
         &mut self,
         from: &Address,
