@@ -91,6 +91,7 @@ impl<A: Allocator + Copy> Keys<A> {
     }
 
     /// `find`, by the index.
+    #[inline(always)]
     fn look_up(&mut self, id: u32) -> Option<usize>
         ensures value { result ≡ key_of self.old id }
         ensures same { self.new ≡ self.old }
