@@ -7,12 +7,11 @@ use Rattle.tcap_dialogue.specs.Timers.{after_timer, earliest, expiry_by, first_b
 use Rattle.tcap_dialogue.specs.declared.dialogue.timers.Timer.{Timer}
 use Rattle.tcap_dialogue.specs.declared.dialogue.timers.Timer.TheVariants as timer
 use Rattle.tcap_engine.specs.DialogueEntries.{TableEntry, AreFrom, dialogues_of}
-use Rattle.tcap_engine.specs.Lapsing.{IsExpired, IsFirstTimer, IsPutOff, IsRunOut, rows_timer, timer_of}
+use Rattle.tcap_engine.specs.Lapsing.{IsExpired, IsFirstTimer, IsPutOff, IsRunOut, rows_timer}
 use Rattle.tcap_engine.proofs.LeastLemmas.{length-all_told, put-off-set, put-off-tells, run-out-set, run-out-tells, same-first}
 use Rattle.tcap_engine.proofs.TableLemmas.{found-own}
 use Rattle.tcap_invocation.specs.declared.invocations.lapse.Expiry.{Expiry}
 use Rattle.tcap_invocation.specs.declared.invocations.lapse.Expiry.TheVariants.{Lapse as Lapses, Wait}
-use Rattle.tcap_invocation.specs.declared.invocations.lapse.Lapse.{Lapse}
 use Rattle.tcap_invocation.specs.Expiries.{RunsOut, WasNext, after_expiry, lapse_in}
 use Rattle.tcap_model.specs.Table.Dialogue.{Dialogue, idle_end, touched_at, with_invocations}
 use Rattle.tcap_invocation.specs.Lapses.{due_at, told_at, is_before}

@@ -10,8 +10,7 @@ use Rattle.tcap_dialogue.specs.Timers.{earliest}
 use Rattle.tcap_dialogue.specs.declared.dialogue.timers.Timer.{Timer}
 use Rattle.tcap_dialogue.specs.declared.dialogue.timers.Timer.TheVariants as timer
 use Rattle.tcap_model.specs.Table.Dialogue.{Dialogue, idle_end, touched_at, with_invocations}
-use Rattle.tcap_model.specs.Words.Output.{Output}
-use Rattle.tcap_model.specs.Table.DueLapses.{DueLapse, due_told, all_told, at_moment}
+use Rattle.tcap_model.specs.Table.DueLapses.{DueLapse, all_told, at_moment}
 use Rattle.timed_table.specs.Row.{is_before}
 
 -- The moment at which an invocation of a dialogue lapses or a wait ends first

@@ -1,13 +1,11 @@
-use Rattle.std.proofs.Common.{rules, arith, ◌≡◌, ◌+◌, ◌∙◌, ◌++◌, ◌∷◌, ap, sym, nat_eq, length, List, Some, [], append_assoc}
+use Rattle.std.proofs.Common.{rules, arith, ◌≡◌, ◌+◌, ◌∙◌, ◌++◌, ap, sym, nat_eq, length, List, Some}
 use Rattle.std.proofs.lemmas.List.{length-map}
 use Rattle.std.specs.Map.{lookup}
 use Rattle.tcap_engine.specs.IdleDialogues.{idle_end_in, idle_end}
 use Rattle.tcap_engine.specs.DialogueEntries.{TableEntry}
-use Rattle.tcap_engine.proofs.TableLemmas.{found-own}
 use Rattle.tcap_engine.proofs.TimedLemmas.{timed-without}
 use Rattle.tcap_invocation.specs.Closing.{ended_at}
 use Rattle.tcap_model.specs.Table.TableMove.{ended_told}
-use Rattle.tcap_model.specs.Words.Output.{Output, AbortCause, DialogueIndication}
 use Rattle.timed_table.specs.Row.{entries_of}
 use Rattle.tcap_engine.proofs.engine.idle.end_one.Goals as goal
 
