@@ -7,6 +7,7 @@ use Rattle.tcap_words.specs.Writing.{IsFront}
 use Rattle.tcap_judging.specs.Entry.{Entry, line, numbered}
 use Rattle.tcap_judging.specs.EntryText.{entry_text, entries_text, is_good_entry, are_good}
 use Rattle.tcap_judging.specs.Form.{Form}
+use Rattle.tcap_judging.specs.declared.naming.Naming.{Naming}
 
 pub text-append : (form : Form) (xs ys : List Entry) → entries_text form (xs ++ ys) ≡ entries_text form xs ++ entries_text form ys
 text-append form xs ys = flat_map-append (entry_text form) xs ys
@@ -27,11 +28,11 @@ good-alone x = by (is_good_entry x) where
 pub good-more : (xs ys : List Entry) (good judged : Bool) → good ≡ are_good xs → judged ≡ are_good ys → (good && judged) ≡ are_good (xs ++ ys)
 good-more xs ys good judged e j = ap (λ (b : Bool). b && judged) e ∙ ap (λ (b : Bool). are_good xs && b) j ∙ sym (good-append xs ys)
 
-pub numbered-append : (number : ℕ) (xs ys : List (List ℕ)) → numbered number (xs ++ ys) ≡ numbered number xs ++ numbered (number + length xs) ys
-numbered-append number [] ys = ap (λ n. numbered n ys) (omega arith)
-numbered-append number (x ∷ xs) ys =
-    let more = numbered-append (number + 1) xs ys in
-    ap (λ es. line number x ∷ es) (more ∙ ap (λ n. numbered (number + 1) xs ++ numbered n ys) (omega arith))
+pub numbered-append : (naming : Naming) (number : ℕ) (xs ys : List (List ℕ)) → numbered naming number (xs ++ ys) ≡ numbered naming number xs ++ numbered naming (number + length xs) ys
+numbered-append naming number [] ys = ap (λ n. numbered naming n ys) (omega arith)
+numbered-append naming number (x ∷ xs) ys =
+    let more = numbered-append naming (number + 1) xs ys in
+    ap (λ es. line naming number x ∷ es) (more ∙ ap (λ n. numbered naming (number + 1) xs ++ numbered naming n ys) (omega arith))
 
 -- ---- what is written
 

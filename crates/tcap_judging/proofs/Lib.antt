@@ -1,6 +1,7 @@
 mod EntryLists
 mod Going
 mod GoodMessages
+mod JsonLists
 mod LineCuts
 mod LineGoing
 mod NameLists

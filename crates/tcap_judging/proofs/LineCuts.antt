@@ -11,6 +11,7 @@ use Rattle.tcap_judging.specs.Lines.{ended, is_one_line, line_feed}
 use Rattle.tcap_judging.specs.LineSteps.{Adds}
 use Rattle.tcap_judging.specs.LineViews.{AreKept, IsUnderWay}
 use Rattle.tcap_judging.specs.Form.{Form}
+use Rattle.tcap_judging.specs.declared.naming.Naming.{Naming}
 
 abbrev IsLine : List ℕ → Type 0
 IsLine octets = is_one_line octets ≡ true
@@ -29,19 +30,19 @@ line-append : (xs ys : List ℕ) → is_one_line xs ≡ true → is_one_line ys 
 line-append xs ys p q = list_all-append _ xs ys ∙ ap (λ (b : Bool). b && is_one_line ys) p ∙ q
 
 -- the lines so far, and what is left of the piece
-pub record IsSoFar (form : Form) (before piece rest : List ℕ) (number : ℕ) (kept : List ℕ) (is_long : Bool) (next : ℕ) (old new : List ℕ) (good : Bool) : Type 0 where
+pub record IsSoFar (form : Form) (naming : Naming) (before piece rest : List ℕ) (number : ℕ) (kept : List ℕ) (is_long : Bool) (next : ℕ) (old new : List ℕ) (good : Bool) : Type 0 where
   pub lines : List (List ℕ)
   pub left : List ℕ
   pub is_input : before ++ piece ≡ ended lines ++ (left ++ rest)
   pub each : AreLines lines
   pub under_way : IsUnderWay left kept is_long
   pub next_number : next ≡ number + length lines
-  pub added : new ≡ old ++ entries_text form (numbered number lines)
-  pub verdict : good ≡ are_good (numbered number lines)
+  pub added : new ≡ old ++ entries_text form (numbered naming number lines)
+  pub verdict : good ≡ are_good (numbered naming number lines)
 
 -- none yet
-pub none-so-far : (form : Form) (before piece : List ℕ) (number : ℕ) (kept : List ℕ) (is_long : Bool) (old : List ℕ) → IsUnderWay before kept is_long → IsSoFar form before piece piece number kept is_long number old old true
-none-so-far form before piece number kept is_long old under_way = record {
+pub none-so-far : (form : Form) (naming : Naming) (before piece : List ℕ) (number : ℕ) (kept : List ℕ) (is_long : Bool) (old : List ℕ) → IsUnderWay before kept is_long → IsSoFar form naming before piece piece number kept is_long number old old true
+none-so-far form naming before piece number kept is_long old under_way = record {
   lines = [];
   left = before;
   is_input = refl;
@@ -55,15 +56,15 @@ none-so-far form before piece number kept is_long old under_way = record {
 nothing_kept : (kept : List ℕ) (is_long : Bool) → kept ≡ [] → is_long ≡ false → IsUnderWay [] kept is_long
 nothing_kept kept is_long k l = rw l ((k, omega arith), refl)
 
-module _ (form : Form) (before piece rest : List ℕ) (number : ℕ) (kept : List ℕ) (is_long : Bool) (next : ℕ) (old mid : List ℕ) (good : Bool) (s : IsSoFar form before piece rest number kept is_long next old mid good) where
+module _ (form : Form) (naming : Naming) (before piece rest : List ℕ) (number : ℕ) (kept : List ℕ) (is_long : Bool) (next : ℕ) (old mid : List ℕ) (good : Bool) (s : IsSoFar form naming before piece rest number kept is_long next old mid good) where
   -- one more
   pub one-more : (octets after new later : List ℕ) (long : Bool) (number_after : ℕ) (judged : Bool) → rest ≡ octets ++ (line_feed ∷ after) → is_one_line octets ≡ true
-      → new ≡ mid ++ entry_text form (line next (s.left ++ octets)) → judged ≡ is_good_entry (line next (s.left ++ octets))
-      → later ≡ [] → long ≡ false → number_after ≡ next + 1 → IsSoFar form before piece after number later long number_after old new (good && judged)
+      → new ≡ mid ++ entry_text form (line naming next (s.left ++ octets)) → judged ≡ is_good_entry (line naming next (s.left ++ octets))
+      → later ≡ [] → long ≡ false → number_after ≡ next + 1 → IsSoFar form naming before piece after number later long number_after old new (good && judged)
   one-more octets after new later long number_after judged is_rest one added judges empty short following =
       let whole = s.left ++ octets in
       let is_line : is_one_line whole ≡ true = line-append s.left octets s.under_way.1 one in
-      let more : numbered number (s.lines ++ (whole ∷ [])) ≡ numbered number s.lines ++ (line next whole ∷ []) = numbered-append number s.lines (whole ∷ []) ∙ ap (λ n. numbered number s.lines ++ (line n whole ∷ [])) (sym s.next_number) in
+      let more : numbered naming number (s.lines ++ (whole ∷ [])) ≡ numbered naming number s.lines ++ (line naming next whole ∷ []) = numbered-append naming number s.lines (whole ∷ []) ∙ ap (λ n. numbered naming number s.lines ++ (line naming n whole ∷ [])) (sym s.next_number) in
       record {
         lines = s.lines ++ (whole ∷ []);
         left = [];
@@ -71,14 +72,14 @@ module _ (form : Form) (before piece rest : List ℕ) (number : ℕ) (kept : Lis
         each = lines-append s.lines (whole ∷ []) s.each (is_line, tt);
         under_way = nothing_kept later long empty short;
         next_number = following ∙ omega (arith, s.next_number, length-append s.lines (whole ∷ []));
-        added = added ∙ ap (λ t. t ++ entry_text form (line next whole)) s.added ∙ append_assoc old (entries_text form (numbered number s.lines)) (entry_text form (line next whole)) ∙ ap (λ t. old ++ t) (ap (λ t. entries_text form (numbered number s.lines) ++ t) (sym (text-alone form (line next whole))) ∙ sym (text-append form (numbered number s.lines) (line next whole ∷ [])) ∙ ap (entries_text form) (sym more));
-        verdict = good-more (numbered number s.lines) (line next whole ∷ []) good judged s.verdict (judges ∙ sym (good-alone (line next whole))) ∙ ap are_good (sym more);
+        added = added ∙ ap (λ t. t ++ entry_text form (line naming next whole)) s.added ∙ append_assoc old (entries_text form (numbered naming number s.lines)) (entry_text form (line naming next whole)) ∙ ap (λ t. old ++ t) (ap (λ t. entries_text form (numbered naming number s.lines) ++ t) (sym (text-alone form (line naming next whole))) ∙ sym (text-append form (numbered naming number s.lines) (line naming next whole ∷ [])) ∙ ap (entries_text form) (sym more));
+        verdict = good-more (numbered naming number s.lines) (line naming next whole ∷ []) good judged s.verdict (judges ∙ sym (good-alone (line naming next whole))) ∙ ap are_good (sym more);
       }
 
   -- all of them
-  pub all-taken : (later : List ℕ) (long : Bool) → is_one_line rest ≡ true → AreKept (s.left ++ rest) later long → Adds form before piece number later long next old mid good
+  pub all-taken : (later : List ℕ) (long : Bool) → is_one_line rest ≡ true → AreKept (s.left ++ rest) later long → Adds form naming before piece number later long next old mid good
   all-taken later long one keeps = record {
-    entries = numbered number s.lines;
+    entries = numbered naming number s.lines;
     takes = record {
       lines = s.lines;
       left = s.left ++ rest;

@@ -16,4 +16,5 @@ bad_words (bad.Name column octet) = column_words column
     (codes ": expected a name of visible ASCII without quotation marks and backslashes, found 0x") octet
 bad_words (bad.Digit column octet) = column_words column (codes ": expected a hexadecimal digit, found 0x") octet
 bad_words bad.NoDigits = codes "no hexadecimal digits"
+bad_words bad.NoDigitsBehind = codes "no hexadecimal digits behind the name"
 bad_words bad.OddDigits = codes "an odd number of hexadecimal digits"

@@ -17,27 +17,38 @@ use Rattle.tcap_judging.specs.declared.request.Request.{Request}
 use Rattle.tcap_judging.specs.declared.request.Request.TheVariants.{Help, Version, Lines, Stream, Resync}
 use Rattle.tcap_words.specs.Writing.{IsFront}
 
+-- The names by which a run prints what messages name, if by some (own).
+abbrev pub Names : Type 0
+Names = Option (List NameParts)
+
+-- What a reader has yet to give, or a writer took, where that is known (own).
+abbrev pub Octets : Type 0
+Octets = Option (List ℕ)
+
 -- What is asked for was written, and this is the verdict (own).
-abbrev pub IsAnswered : Option (List NameParts) → Request → Option (List ℕ) → Option (List ℕ) → Option (List ℕ) → Option (List ℕ) → Bool → Type 0
+abbrev pub IsAnswered : Names → Request → Octets → Octets → Octets → Octets → Bool → Type 0
 IsAnswered names Help had left old new good = Appends old new help_text × (good ≡ true)
 IsAnswered names Version had left old new good = Appends old new version_text × (good ≡ true)
-IsAnswered names (Lines layout) had left old new good = IsJudged (form_by layout names) LinesTell had left old new good
-IsAnswered names (Stream layout) had left old new good = IsJudged (form_by layout names) StreamTells had left old new good
-IsAnswered names (Resync layout) had left old new good = IsJudged (form_by layout names) ResyncTells had left old new good
+IsAnswered names (Lines layout naming) had left old new good =
+    IsJudged (form_by layout names) (LinesTell naming) had left old new good
+IsAnswered names (Stream layout) had left old new good =
+    IsJudged (form_by layout names) StreamTells had left old new good
+IsAnswered names (Resync layout) had left old new good =
+    IsJudged (form_by layout names) ResyncTells had left old new good
 
 -- A text was not written, since a write failed: a front of it was, but not all of it (own).
-abbrev pub IsTextCut : List ℕ → Option (List ℕ) → Option (List ℕ) → JudgingFault → Type 0
+abbrev pub IsTextCut : List ℕ → Octets → Octets → JudgingFault → Type 0
 IsTextCut text old new fault.OutOfMemory = ⊥
 IsTextCut text old new fault.Read = ⊥
 IsTextCut text old new fault.Write = IsFront text old new
 IsTextCut text old new fault.TooLong = ⊥
 
 -- Why what is asked for was not written to its end, and what was (own).
-abbrev pub IsUnanswered : Option (List NameParts) → Request → Option (List ℕ) → Option (List ℕ) → Option (List ℕ) → Option (List ℕ)
-    → JudgingFault → Type 0
+abbrev pub IsUnanswered : Names → Request → Octets → Octets → Octets → Octets → JudgingFault → Type 0
 IsUnanswered names Help had left old new f = IsTextCut help_text old new f
 IsUnanswered names Version had left old new f = IsTextCut version_text old new f
-IsUnanswered names (Lines layout) had left old new f = IsUnjudged (form_by layout names) LinesTell had left old new f
+IsUnanswered names (Lines layout naming) had left old new f =
+    IsUnjudged (form_by layout names) (LinesTell naming) had left old new f
 IsUnanswered names (Stream layout) had left old new f = IsUnjudged (form_by layout names) StreamTells had left old new f
 IsUnanswered names (Resync layout) had left old new f = IsUnjudged (form_by layout names) ResyncTells had left old new f
 
@@ -45,20 +56,18 @@ IsUnanswered names (Resync layout) had left old new f = IsUnjudged (form_by layo
 abbrev pub Reads : Request → Type 0
 Reads Help = ⊥
 Reads Version = ⊥
-Reads (Lines layout) = Unit {0}
+Reads (Lines layout naming) = Unit {0}
 Reads (Stream layout) = Unit {0}
 Reads (Resync layout) = Unit {0}
 
 -- The words ask for something that came to no end (own).
-abbrev pub IsAskedInVain : Option (List NameParts) → List Text → Option (List ℕ) → Option (List ℕ) → Option (List ℕ) → Option (List ℕ)
-    → JudgingFault → Type 0
+abbrev pub IsAskedInVain : Names → List Text → Octets → Octets → Octets → Octets → JudgingFault → Type 0
 IsAskedInVain names words had left old new f = (request : Request) × Ask words request
     × IsUnanswered names request had left old new f
 
 -- Why a run came to no verdict: the words ask for nothing, or memory was refused before they were read, and nothing
 -- was written; or what they ask for came to no end. What is wrong with a list of names no run tells (own).
-abbrev pub IsRefusal : Option (List NameParts) → List Text → Option (List ℕ) → Option (List ℕ) → Option (List ℕ) → Option (List ℕ) → Refusal
-    → Type 0
+abbrev pub IsRefusal : Names → List Text → Octets → Octets → Octets → Octets → Refusal → Type 0
 IsRefusal names words had left old new BadCommand = AskNothing words × Keeps old new
 IsRefusal names words had left old new (Fault fault.OutOfMemory) = Keeps old new
     ⊎ IsAskedInVain names words had left old new fault.OutOfMemory
@@ -74,9 +83,9 @@ status_of (Ok true) = 0
 status_of (Ok false) = 1
 status_of (Err refusal) = 2
 
--- What a run for these words gives, by these names, what the reader had before and after, and what the writer held (own).
-abbrev pub Gave : Option (List NameParts) → List Text → Option (List ℕ) → Option (List ℕ) → Option (List ℕ) → Option (List ℕ)
-    → Result Bool Refusal → Type 0
+-- What a run for these words gives, by these names, what the reader had before and after, and what the writer held
+-- (own).
+abbrev pub Gave : Names → List Text → Octets → Octets → Octets → Octets → Result Bool Refusal → Type 0
 Gave names words had left old new answer = MatchResult answer
     (λ good. (request : Request) × Ask words request × IsAnswered names request had left old new good)
     (λ refusal. IsRefusal names words had left old new refusal)

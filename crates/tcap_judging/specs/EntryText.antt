@@ -13,8 +13,8 @@ use Rattle.tcap_judging.specs.Form.{Form}
 use Rattle.tcap_judging.specs.declared.form.Layout.{Layout}
 use Rattle.tcap_judging.specs.declared.form.Layout.TheVariants as layout
 use Rattle.tcap_judging.specs.BadLine.{bad_words}
-use Rattle.tcap_judging.specs.Entry.{Entry, line, message, broken, passed}
-use Rattle.tcap_judging.specs.JsonText.{json_bad_text, json_passed_text, json_text}
+use Rattle.tcap_judging.specs.Entry.{Entry, line, message, broken, unread, passed}
+use Rattle.tcap_judging.specs.JsonText.{json_bad_text, json_passed_text, json_text, json_unread_text}
 use Rattle.tcap_judging.specs.Label.{Label, offset as offset_label, label_of, label_words}
 use Rattle.tcap_judging.specs.MarkedText.{marked_text}
 use Rattle.tcap_judging.specs.MessageNames.{names_words}
@@ -45,7 +45,7 @@ plain_text names label octets =
 abbrev pub message_by : Layout → Option (List NameParts) → Label → List ℕ → List ℕ
 message_by layout.Plain names label octets = plain_text names label octets
 message_by layout.Marked names label octets = plain_text names label octets ++ marked_text octets (explained_at octets)
-message_by layout.Json names label octets = json_text label octets
+message_by layout.Json names label octets = json_text names label octets
 
 -- What is printed for a message (own).
 abbrev pub message_text : Form → Label → List ℕ → List ℕ
@@ -71,6 +71,16 @@ passed_text layout.Plain offset count = plain_passed_text offset count
 passed_text layout.Marked offset count = plain_passed_text offset count
 passed_text layout.Json offset count = json_passed_text offset count
 
+-- The line that nothing is read behind octets at which no message is: the offset of the first of them (own).
+abbrev pub plain_unread_text : ℕ → List ℕ
+plain_unread_text offset = decimal offset ++ codes " stopped: nothing behind this fault is judged\n"
+
+-- What is printed where nothing is read behind such octets (own).
+abbrev pub unread_text : Layout → ℕ → List ℕ
+unread_text layout.Plain offset = plain_unread_text offset
+unread_text layout.Marked offset = plain_unread_text offset
+unread_text layout.Json offset = json_unread_text offset
+
 -- What is printed for hexadecimal, by the octets that it spells (own).
 abbrev pub hex_text : Form → ℕ → Label → Option (List ℕ) → List ℕ
 hex_text form number label None = bad_text form.layout number bad.OddDigits
@@ -84,9 +94,10 @@ parts_text form number (bad_line why) = bad_text form.layout number why
 
 -- What is printed for an entry (own).
 abbrev pub entry_text : Form → Entry → List ℕ
-entry_text form (line number octets) = parts_text form number (parts_of octets)
+entry_text form (line naming number octets) = parts_text form number (parts_of naming octets)
 entry_text form (message offset octets) = message_text form (offset_label offset) octets
 entry_text form (broken offset octets) = message_text form (offset_label offset) octets
+entry_text form (unread offset) = unread_text form.layout offset
 entry_text form (passed offset count) = passed_text form.layout offset count
 
 -- Whether the octets that hexadecimal spells, if any, are a good message (own).
@@ -102,9 +113,10 @@ are_good_parts (bad_line why) = false
 
 -- Whether an entry is good (own).
 abbrev pub is_good_entry : Entry → Bool
-is_good_entry (line number octets) = are_good_parts (parts_of octets)
+is_good_entry (line naming number octets) = are_good_parts (parts_of naming octets)
 is_good_entry (message offset octets) = show_is_good octets
 is_good_entry (broken offset octets) = show_is_good octets
+is_good_entry (unread offset) = false
 is_good_entry (passed offset count) = false
 
 -- What is printed for some entries, one after the other (own).

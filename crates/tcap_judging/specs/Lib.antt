@@ -1,10 +1,13 @@
 pub mod BadLine
+pub mod CodeText
 pub mod Command
 pub mod CommandLine
 pub mod Entry
 pub mod EntryText
 pub mod Form
 pub mod HelpText
+pub mod JsonNames
+pub mod JsonSteps
 pub mod JsonText
 pub mod Label
 pub mod LineParts
@@ -12,6 +15,7 @@ pub mod LineSteps
 pub mod LineViews
 pub mod Lines
 pub mod MarkedText
+pub mod MessageItems
 pub mod MessageNames
 pub mod NameViews
 pub mod Names

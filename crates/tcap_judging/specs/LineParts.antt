@@ -1,10 +1,12 @@
 -- What stands in a line: nothing, a message in hexadecimal that may have a name, or neither.
-use Rattle.std.specs.Prelude.{ℕ, ◌+◌, ◌-◌, Bool, List, length, take, drop, Option, Some, None, not, nat_le, nat_lt, ◌==◌, ◌||◌, ◌&&◌, if◌then◌else◌, slice_index}
+use Rattle.std.specs.Prelude.{ℕ, ◌+◌, ◌-◌, Bool, true, List, length, take, drop, Option, Some, None, not, nat_le, nat_lt, ◌==◌, ◌||◌, ◌&&◌, if◌then◌else◌, slice_index}
 use Rattle.std.specs.List.{list_any, filter, position_or_len}
 use Rattle.hex.specs.Hex.{is_hex_digit}
 use Rattle.tcap_words.specs.Spelling.{spelled_by}
 use Rattle.tcap_judging.specs.declared.bad_line.BadLine.{BadLine}
 use Rattle.tcap_judging.specs.declared.bad_line.BadLine.TheVariants as bad
+use Rattle.tcap_judging.specs.declared.naming.Naming.{Naming}
+use Rattle.tcap_judging.specs.declared.naming.Naming.TheVariants.{Marked, All}
 
 -- The longest line, in octets, without its line feed: a message of 65,535 octets at three characters each, and a
 -- name (own).
@@ -59,12 +61,17 @@ behind_word text = drop (position_or_len is_blank text) text
 abbrev pub ends_in_colon : List ℕ → Bool
 ends_in_colon word = nat_lt 1 (length word) && is_colon (slice_index word (length word - 1))
 
--- The name that a first word is. A word that ends in a colon is one, without that colon; a word with an octet that is
--- neither a digit of hexadecimal nor a colon is one; no other word is (own).
-abbrev pub name_of : List ℕ → Option (List ℕ)
-name_of word =
+-- A first word that ends in no colon is a name: each is, or one with an octet that is neither a digit of hexadecimal
+-- nor a colon (own).
+abbrev pub is_name : Naming → List ℕ → Bool
+is_name Marked word = list_any is_in_name word
+is_name All word = true
+
+-- The name that a first word is: one that ends in a colon is it without that colon (own).
+abbrev pub name_of : Naming → List ℕ → Option (List ℕ)
+name_of naming word =
     if ends_in_colon word then Some (take (length word - 1) word)
-    else if list_any is_in_name word then Some word
+    else if is_name naming word then Some word
     else None
 
 -- What stands in a line (own).
@@ -81,6 +88,11 @@ pub data LineParts : Type 0 where
 abbrev pub column : List ℕ → List ℕ → ℕ → ℕ
 column line rest place = length line - length rest + place + 1
 
+-- What is wrong in a line with a name or none that has no digit of hexadecimal (own).
+abbrev pub no_digits : Option (List ℕ) → BadLine
+no_digits None = bad.NoDigits
+no_digits (Some name) = bad.NoDigitsBehind
+
 -- The parts of a line with a name or none, of which the rest is hexadecimal: each of its octets has to be a digit, a
 -- blank or a colon, and a digit has to be there (own).
 abbrev pub hex_parts : List ℕ → Option (List ℕ) → List ℕ → LineParts
@@ -89,7 +101,7 @@ hex_parts line name rest =
     (bad.Digit (column line rest (position_or_len is_foreign rest))
     (slice_index rest (position_or_len is_foreign rest)))
     else if list_any is_hex_digit rest then hex name rest
-    else bad_line bad.NoDigits
+    else bad_line (no_digits name)
 
 -- The parts of a line by the name that its first word is: each octet of a name has to be one that a name may have;
 -- the hexadecimal stands behind the name, or begins with the first word (own).
@@ -102,16 +114,17 @@ named_parts line text (Some name) =
     else hex_parts line (Some name) (behind_word text)
 
 -- The parts of a line from its first octet on that is no blank (own).
-abbrev pub text_parts : List ℕ → List ℕ → LineParts
-text_parts line text = if length text == 0 then blank else named_parts line text (name_of (first_word text))
+abbrev pub text_parts : Naming → List ℕ → List ℕ → LineParts
+text_parts naming line text =
+    if length text == 0 then blank else named_parts line text (name_of naming (first_word text))
 
 -- The parts of a line that isn't too long (own).
-abbrev pub parts_within : List ℕ → LineParts
-parts_within line = text_parts line (trimmed line)
+abbrev pub parts_within : Naming → List ℕ → LineParts
+parts_within naming line = text_parts naming line (trimmed line)
 
 -- The parts of a line; its length is judged first (own).
-abbrev pub parts_of : List ℕ → LineParts
-parts_of line = if nat_lt line_limit (length line) then bad_line bad.TooLong else parts_within line
+abbrev pub parts_of : Naming → List ℕ → LineParts
+parts_of naming line = if nat_lt line_limit (length line) then bad_line bad.TooLong else parts_within naming line
 
 -- The octets that hexadecimal spells with blanks and colons left out, if its digits are an even number (own).
 abbrev pub octets_of : List ℕ → Option (List ℕ)

@@ -1,5 +1,6 @@
 -- A name, and a form with names, as a contract sees them.
-use Rattle.std.specs.Prelude.{map, option_copied}
+use Rattle.std.specs.Prelude.{List, Option, map, option_copied}
+use Rattle.std.specs.Borrow.{Bor}
 use Rattle.std.specs.Option.{option_map}
 use Rattle.tcap_judging.specs.Form.{Form, form_by}
 use Rattle.tcap_judging.specs.declared.form.Form.{Form as FormStruct}
@@ -18,6 +19,10 @@ line_view lines.Nothing = nothing
 line_view (lines.Name n) = named_line (named_view n)
 line_view lines.Bad = bad
 
+-- A list of names, if there is one (own).
+abbrev pub names_view : Option (Bor (List Named)) → Option (List NameParts)
+names_view names = option_map (map named_view) (option_copied names)
+
 -- How a run prints what it tells (own).
 abbrev pub form_view : FormStruct → Form
-form_view f = form_by f.layout (option_map (map named_view) (option_copied f.names))
+form_view f = form_by f.layout (names_view f.names)

@@ -17,8 +17,10 @@ pub enum BadLine {
     Name(usize, u8),
     /// The hexadecimal has neither a digit nor a blank nor a colon at this column, but this octet.
     Digit(usize, u8),
-    /// There is no digit of hexadecimal.
+    /// There is no digit of hexadecimal, and no name.
     NoDigits,
+    /// There is no digit of hexadecimal behind the name.
+    NoDigitsBehind,
     /// The digits are an odd number.
     OddDigits,
 }
@@ -60,6 +62,7 @@ pub(crate) fn add_bad<A: Allocator + Copy>(
             octet,
         ),
         BadLine::NoDigits => Ok(text.push_str("no hexadecimal digits")?),
+        BadLine::NoDigitsBehind => Ok(text.push_str("no hexadecimal digits behind the name")?),
         BadLine::OddDigits => Ok(text.push_str("an odd number of hexadecimal digits")?),
     }
 }

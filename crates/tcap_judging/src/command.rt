@@ -1,10 +1,10 @@
 //! A run of the command: its words, its standard input, what it writes, its status.
 
-ghost use Rattle.std.specs.Prelude.{◌≡◌, Bool, Result, map, option_copied, option_map, MatchResult};
+ghost use Rattle.std.specs.Prelude.{◌≡◌, Bool, Result, map, MatchResult};
 ghost use Rattle.std.specs.Io.KnownBytes.{Appends};
 ghost use Rattle.tcap_words.specs.Writing.{IsFront};
 ghost use Rattle.tcap_judging.specs.CommandLine.{Ask};
-ghost use Rattle.tcap_judging.specs.NameViews.{named_view};
+ghost use Rattle.tcap_judging.specs.NameViews.{names_view};
 ghost use Rattle.tcap_judging.specs.Command.{IsAnswered, IsUnanswered, Reads, Gave, status_of};
 
 use crate::fault::JudgingFault;
@@ -37,16 +37,18 @@ pub(crate) fn answer<A: Allocator + Copy, R: Read, W: Write>(
     out: &mut W,
 ) -> Result<bool, JudgingFault>
     ensures answered { MatchResult result
-        (λ good. IsAnswered (option_map (map named_view) (option_copied names.entry)) request (R.remaining reader.old) (R.remaining reader.new) (W.contents out.old)
-        (W.contents out.new) good)
-        (λ fault. IsUnanswered (option_map (map named_view) (option_copied names.entry)) request (R.remaining reader.old) (R.remaining reader.new) (W.contents out.old)
-        (W.contents out.new) fault) }
+        (λ good. IsAnswered (names_view names.entry) request (R.remaining reader.old) (R.remaining reader.new)
+        (W.contents out.old) (W.contents out.new) good)
+        (λ fault. IsUnanswered (names_view names.entry) request (R.remaining reader.old) (R.remaining reader.new)
+        (W.contents out.old) (W.contents out.new) fault) }
     ensures reader { ¬ (Reads request) → reader.new ≡ reader.old }
 {
     match request {
         Request::Help => write_text(out, help_text().as_bytes())?,
         Request::Version => write_text(out, version_text().as_bytes())?,
-        Request::Lines(layout) => return judge_lines(heap, Form { layout, names }, reader, out),
+        Request::Lines(layout, naming) => {
+            return judge_lines(heap, Form { layout, names }, naming, reader, out);
+        }
         Request::Stream(layout) => return judge_stream(heap, Form { layout, names }, reader, out),
         Request::Resync(layout) => return judge_resynced(heap, Form { layout, names }, reader, out),
     }
@@ -62,7 +64,7 @@ fn respond<A: Allocator + Copy, R: Read, W: Write>(
     reader: &mut R,
     out: &mut W,
 ) -> Result<bool, Refusal>
-    ensures gave { Gave (option_map (map named_view) (option_copied names.entry)) (map (λ w. w.now) words.now) (R.remaining reader.old)
+    ensures gave { Gave (names_view names.entry) (map (λ w. w.now) words.now) (R.remaining reader.old)
         (R.remaining reader.new) (W.contents out.old) (W.contents out.new) result }
 {
     let asked = match read_words(alloc, words) {
@@ -93,7 +95,8 @@ pub fn report<E: Write>(err: &mut E, refusal: Refusal) -> u8
 
 /// The whole program for the words after its name: writes to `out` what they ask for, and gives the status, 0 where
 /// every message is good and there is no other line, 1 where that isn't so, 2 where the run came to no end; why it
-/// didn't is told on `err`. `names` are those of the file that `names_file` tells. `clap` takes its memory from `alloc`, all else from `heap`.
+/// didn't is told on `err`. `names` are those of the file that `names_file` tells. `clap` takes its memory from
+/// `alloc`, all else from `heap`.
 ///
 /// ```rust
 /// let mut lines: &[u8] = b"6203480107\n";
@@ -111,7 +114,7 @@ pub fn run_judge<A: Allocator + Copy, R: Read, W: Write, E: Write>(
     err: &mut E,
 ) -> u8
     ensures { (answer : Result Bool Refusal) × (result ≡ status_of answer)
-        × Gave (option_map (map named_view) (option_copied names.entry)) (map (λ w. w.now) words.now)
+        × Gave (names_view names.entry) (map (λ w. w.now) words.now)
         (R.remaining reader.old) (R.remaining reader.new) (W.contents out.old) (W.contents out.new) answer }
 {
     match respond(alloc, heap, words, names, reader, out) {

@@ -9,6 +9,7 @@ ghost use Rattle.tcap_judging.specs.LineSteps.{Adds};
 ghost use Rattle.tcap_judging.specs.NameViews.{form_view};
 
 use crate::form::Form;
+use crate::naming::Naming;
 use crate::under_way::{add_kept, keep};
 use ber_core::OutOfMemory;
 use std::alloc::Allocator;
@@ -35,6 +36,7 @@ pub(crate) fn first_line(octets: &[u8]) -> Option<(&[u8], &[u8])>
 fn end_line<A: Allocator + Copy>(
     alloc: A,
     form: Form<'_>,
+    naming: Naming,
     text: &mut String<A>,
     begun: &mut Begun<A>,
     octets: &[u8],
@@ -42,9 +44,9 @@ fn end_line<A: Allocator + Copy>(
     requires { begun.old.number + 1 < 2 ^ 64 }
     ensures text { (before : List ℕ) → IsUnderWay before begun.old.kept.items begun.old.is_long
         → OnOk result (string_bytes text.new ≡ string_bytes text.old
-        ++ entry_text (form_view form.entry) (line begun.old.number (before ++ octets.now))) }
+        ++ entry_text (form_view form.entry) (line naming begun.old.number (before ++ octets.now))) }
     ensures good { (before : List ℕ) → IsUnderWay before begun.old.kept.items begun.old.is_long
-        → IfOk result (λ good. good ≡ is_good_entry (line begun.old.number (before ++ octets.now))) }
+        → IfOk result (λ good. good ≡ is_good_entry (line naming begun.old.number (before ++ octets.now))) }
     ensures next { OnOk result ((begun.new.kept.items ≡ []) × (begun.new.is_long ≡ false)
         × (begun.new.number ≡ begun.old.number + 1)) }
 {
@@ -52,6 +54,7 @@ fn end_line<A: Allocator + Copy>(
     let good = add_kept(
         alloc,
         form,
+        naming,
         text,
         begun.number,
         begun.kept.as_slice(),
@@ -68,21 +71,21 @@ fn end_line<A: Allocator + Copy>(
 pub(crate) fn take_piece<A: Allocator + Copy>(
     alloc: A,
     form: Form<'_>,
+    naming: Naming,
     text: &mut String<A>,
     begun: &mut Begun<A>,
     piece: &[u8],
 ) -> Result<bool, OutOfMemory>
     requires { begun.old.number + length piece.now < 2 ^ 64 }
     ensures adds { (before : List ℕ) → IsUnderWay before begun.old.kept.items begun.old.is_long
-        → IfOk result (λ good. Adds (form_view form.entry) before piece.now begun.old.number begun.new.kept.items begun.new.is_long
-        begun.new.number
-        (string_bytes text.old) (string_bytes text.new) good) }
+        → IfOk result (λ good. Adds (form_view form.entry) naming before piece.now begun.old.number
+        begun.new.kept.items begun.new.is_long begun.new.number (string_bytes text.old) (string_bytes text.new) good) }
     ensures number { OnOk result (begun.new.number ≤ begun.old.number + length piece.now) }
 {
     let mut good = true;
     let mut rest = piece;
     while let Some((line, after)) = first_line(rest) {
-        good &= end_line(alloc, form, text, begun, line)?;
+        good &= end_line(alloc, form, naming, text, begun, line)?;
         rest = after;
     }
     begun.is_long = keep(&mut begun.kept, begun.is_long, rest)?;

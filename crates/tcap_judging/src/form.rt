@@ -9,7 +9,7 @@ pub enum Layout {
     Plain,
     /// Plain, and below a faulty message its octets about the place of the fault, with a mark.
     Marked,
-    /// An object of JSON in each line, which has no names.
+    /// An object of JSON in each line.
     Json,
 }
 
@@ -18,6 +18,6 @@ pub enum Layout {
 pub struct Form<'a> {
     /// How its lines look.
     pub layout: Layout,
-    /// By which list it prints what each message names, behind the verdict; None where it doesn't.
+    /// By which list it prints what each message names, behind the verdict or its fault; None where it doesn't.
     pub names: Option<&'a [Named<'a>]>,
 }

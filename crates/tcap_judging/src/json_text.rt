@@ -4,12 +4,15 @@ ghost use Rattle.std.specs.Prelude.{◌≡◌, ◌++◌, IfOk, OnOk, Some, strin
 ghost use Rattle.std.specs.Fmt.{decimal};
 ghost use Rattle.tcap_words.specs.Show.{show_is_good};
 ghost use Rattle.tcap_words.specs.Verdict.{verdict_words};
-ghost use Rattle.tcap_judging.specs.JsonText.{json_label, json_verdict, json_place, json_rule, json_fault, json_text, json_bad_text, json_passed_text};
+ghost use Rattle.tcap_judging.specs.JsonText.{json_label, json_verdict, json_place, json_rule, json_fault, json_named, json_text, json_bad_text, json_passed_text, json_unread_text};
 ghost use Rattle.tcap_judging.specs.LineViews.{label_view};
+ghost use Rattle.tcap_judging.specs.NameViews.{names_view};
 
 use crate::bad_line::{BadLine, add_bad};
+use crate::json_names::add_json_names;
 use crate::label::Label;
 use crate::message_text::add_verdict;
+use crate::name_list::Named;
 use ber_core::OutOfMemory;
 use std::alloc::Allocator;
 use tcap_explain::{Explained, add_found, add_wanted, explain};
@@ -111,10 +114,10 @@ fn add_rule<A: Allocator + Copy>(
     add_wanted(text, octets, found)?;
     text.push_str("\",\"found\":\"")?;
     add_found(text, octets, found.place, found.rule)?;
-    Ok(text.push_str("\"}\n")?)
+    Ok(text.push_str("\"")?)
 }
 
-/// Adds the last members, of a message with a fault.
+/// Adds the members of a message with a fault.
 fn add_members<A: Allocator + Copy>(
     text: &mut String<A>,
     octets: &[u8],
@@ -126,7 +129,7 @@ fn add_members<A: Allocator + Copy>(
     add_rule(text, octets, found)
 }
 
-/// Adds the last members.
+/// Adds the members for the fault of a message, or for that it has none.
 fn add_fault<A: Allocator + Copy>(
     text: &mut String<A>,
     octets: &[u8],
@@ -136,24 +139,42 @@ fn add_fault<A: Allocator + Copy>(
 {
     match found {
         Some(fault) => add_members(text, octets, fault),
-        None => Ok(text.push_str(",\"good\":true}\n")?),
+        None => Ok(text.push_str(",\"good\":true")?),
+    }
+}
+
+/// Adds what a message names by a list, if there is one.
+fn add_named<A: Allocator + Copy>(
+    text: &mut String<A>,
+    names: Option<&[Named<'_>]>,
+    octets: &[u8],
+) -> Result<(), OutOfMemory>
+    ensures { OnOk result (string_bytes text.new ≡ string_bytes text.old
+        ++ json_named (names_view names.entry) octets.now) }
+{
+    match names {
+        Some(names) => add_json_names(text, names, octets),
+        None => Ok(()),
     }
 }
 
 /// Adds the object of a message, and tells whether it is good.
 pub(crate) fn add_object<A: Allocator + Copy>(
     text: &mut String<A>,
+    names: Option<&[Named<'_>]>,
     called: Label<'_>,
     octets: &[u8],
 ) -> Result<bool, OutOfMemory>
     ensures text { OnOk result (string_bytes text.new ≡ string_bytes text.old
-        ++ json_text (label_view called.entry) octets.now) }
+        ++ json_text (names_view names.entry) (label_view called.entry) octets.now) }
     ensures good { IfOk result (λ good. good ≡ show_is_good octets.now) }
 {
     let verdict = verdict_on(octets);
     add_label(text, called)?;
     add_verdict_member(text, verdict)?;
     add_fault(text, octets, explain(octets))?;
+    add_named(text, names, octets)?;
+    text.push_str("}\n")?;
     Ok(verdict.is_good())
 }
 
@@ -181,4 +202,15 @@ pub(crate) fn add_passed_object<A: Allocator + Copy>(
 {
     add_numbers(text, "{\"offset\":", first, ",\"passed\":", count)?;
     Ok(text.push_str("}\n")?)
+}
+
+/// Adds the object that nothing is read behind octets of a stream at which no message is, by the offset of the first.
+pub(crate) fn add_unread_object<A: Allocator + Copy>(
+    text: &mut String<A>,
+    offset: u64,
+) -> Result<(), OutOfMemory>
+    ensures { OnOk result (string_bytes text.new ≡ string_bytes text.old ++ json_unread_text offset) }
+{
+    add_number(text, "{\"offset\":", offset)?;
+    Ok(text.push_str(",\"stopped\":true}\n")?)
 }

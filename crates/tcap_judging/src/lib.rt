@@ -1,26 +1,31 @@
-//! Verdicts on the messages of a list or of a stream, each with the place of its fault and what was expected there: what
-//! the program `tcap_judge` prints, and its status.
+//! Verdicts on the messages of a list or of a stream, each with the place of its fault and what was expected there:
+//! what the program `tcap_judge` prints, and its status.
 //!
-//! Stands on `tcap_explain`, which has the places, on `tcap_words`, which has the verdicts, on `tcap_pdu`, `tcap_component`
-//! and `object_identifiers`, of which it reads the names of a message, and on `clap`, `hex`, `itoa` and `thiserror`. Begin at `judge_lines` and `judge_stream`; what is printed stands in specs/EntryText.antt.
+//! Stands on `tcap_explain`, which has the places, on `tcap_words`, which has the verdicts, on `tcap_pdu`,
+//! `tcap_component` and `object_identifiers`, by which it reads what a message names, and on `clap`, `hex`, `itoa` and
+//! `thiserror`. Begin at `judge_lines` and `judge_stream`; what is printed stands in specs/EntryText.antt.
 #![tactic(auto)]
 
 mod bad_line;
+mod code_text;
 mod command;
 mod cut;
 mod fault;
 mod form;
 mod help_text;
+mod json_names;
 mod json_text;
 mod label;
 mod line_parts;
 mod line_run;
 mod line_text;
 mod marked_text;
+mod message_items;
 mod message_names;
 mod message_text;
 mod name_line;
 mod name_list;
+mod naming;
 mod place;
 mod refusal;
 mod request;
@@ -39,6 +44,7 @@ pub use form::{Form, Layout};
 pub use line_run::judge_lines;
 pub use message_names::names_text;
 pub use name_list::{NameKind, Named, NamesFault, name_for, read_names};
+pub use naming::Naming;
 pub use refusal::Refusal;
 pub use request::Request;
 pub use resync_run::judge_resynced;

@@ -3,10 +3,11 @@
 ghost use Rattle.std.specs.Prelude.{◌≡◌, ◌<◌, ◌≤◌, length, option_map, Some, None};
 ghost use Rattle.std.specs.List.{position_or_len};
 ghost use Rattle.hex.specs.Hex.{is_hex_digit};
-ghost use Rattle.tcap_judging.specs.LineParts.{is_blank, is_in_name, is_unnamed, is_foreign, is_dark, column, ends_in_colon, name_of, hex_parts, named_parts, parts_within};
+ghost use Rattle.tcap_judging.specs.LineParts.{is_blank, is_in_name, is_unnamed, is_foreign, is_dark, column, ends_in_colon, is_name, name_of, no_digits, hex_parts, named_parts, parts_within};
 ghost use Rattle.tcap_judging.specs.LineViews.{parts_view};
 
 use crate::bad_line::BadLine;
+use crate::naming::Naming;
 
 /// What stands in a line.
 #[derive(Clone, Copy)]
@@ -97,13 +98,23 @@ fn ends_in_colon(word: &[u8]) -> bool
     word.len() > 1 && word[word.len() - 1] == b':'
 }
 
+/// Whether a first word that ends in no colon is a name.
+fn is_name(naming: Naming, word: &[u8]) -> bool
+    ensures { result ≡ is_name naming word.now }
+{
+    match naming {
+        Naming::Marked => word.iter().any(|&octet| is_in_name(octet)),
+        Naming::All => true,
+    }
+}
+
 /// The name that a first word is, without the colon at its end; None where it is hexadecimal.
-fn name_of(word: &[u8]) -> Option<&[u8]>
-    ensures { option_map (λ n. n.now) result ≡ name_of word.now }
+fn name_of(naming: Naming, word: &[u8]) -> Option<&[u8]>
+    ensures { option_map (λ n. n.now) result ≡ name_of naming word.now }
 {
     if ends_in_colon(word) {
         Some(&word[..word.len() - 1])
-    } else if word.iter().any(|&octet| is_in_name(octet)) {
+    } else if is_name(naming, word) {
         Some(word)
     } else {
         None
@@ -119,6 +130,16 @@ fn column(line: &[u8], rest: &[u8], place: usize) -> usize
     line.len() - rest.len() + place + 1
 }
 
+/// What is wrong in a line with a name or none that has no digit of hexadecimal.
+fn no_digits(name: Option<&str>) -> BadLine
+    ensures { result ≡ no_digits (option_map (λ n. n.now) name.entry) }
+{
+    match name {
+        Some(_) => BadLine::NoDigitsBehind,
+        None => BadLine::NoDigits,
+    }
+}
+
 /// The parts of a line with a name or none, of which the rest is hexadecimal.
 fn hex_parts<'l>(line: &'l [u8], name: Option<&'l str>, rest: &'l [u8]) -> LineParts<'l>
     requires { length rest.now ≤ length line.now }
@@ -130,7 +151,7 @@ fn hex_parts<'l>(line: &'l [u8], name: Option<&'l str>, rest: &'l [u8]) -> LineP
     } else if rest.iter().any(|&octet| is_digit(octet)) {
         LineParts::Hex(name, rest)
     } else {
-        LineParts::Bad(BadLine::NoDigits)
+        LineParts::Bad(no_digits(name))
     }
 }
 
@@ -159,15 +180,15 @@ fn named_parts<'l>(line: &'l [u8], text: &'l [u8], name: &'l [u8], word: usize) 
 }
 
 /// The parts of a line that isn't too long.
-pub(crate) fn parts_within(line: &[u8]) -> LineParts<'_>
-    ensures { parts_view result ≡ parts_within line.now }
+pub(crate) fn parts_within(naming: Naming, line: &[u8]) -> LineParts<'_>
+    ensures { parts_view result ≡ parts_within naming line.now }
 {
     let text = &line[blank_count(line)..];
     if text.is_empty() {
         return LineParts::Blank;
     }
     let word = word_len(text);
-    match name_of(&text[..word]) {
+    match name_of(naming, &text[..word]) {
         Some(name) => named_parts(line, text, name, word),
         None => hex_parts(line, None, text),
     }

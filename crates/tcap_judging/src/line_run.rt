@@ -12,6 +12,7 @@ ghost use Rattle.tcap_judging.specs.NameViews.{form_view};
 use crate::cut::{Begun, take_piece};
 use crate::fault::JudgingFault;
 use crate::form::Form;
+use crate::naming::Naming;
 use crate::under_way::add_kept;
 use std::alloc::Allocator;
 use std::io::{Read, Write};
@@ -27,20 +28,21 @@ pub(crate) const PIECE: usize = 4_096;
 fn write_piece<A: Allocator + Copy, W: Write>(
     alloc: A,
     form: Form<'_>,
+    naming: Naming,
     begun: &mut Begun<A>,
     piece: &[u8],
     writer: &mut W,
 ) -> Result<bool, JudgingFault>
     requires { begun.old.number + length piece.now < 2 ^ 64 }
     ensures writes { (before : List ℕ) → IsUnderWay before begun.old.kept.items begun.old.is_long → MatchResult result
-        (λ good. Writes (form_view form.entry) before piece.now begun.old.number begun.new.kept.items begun.new.is_long begun.new.number
-        (W.contents writer.old) (W.contents writer.new) good)
-        (λ fault. IsUntaken (form_view form.entry) before piece.now begun.old.number (W.contents writer.old) (W.contents writer.new)
-        fault) }
+        (λ good. Writes (form_view form.entry) naming before piece.now begun.old.number begun.new.kept.items
+        begun.new.is_long begun.new.number (W.contents writer.old) (W.contents writer.new) good)
+        (λ fault. IsUntaken (form_view form.entry) naming before piece.now begun.old.number (W.contents writer.old)
+        (W.contents writer.new) fault) }
     ensures number { OnOk result (begun.new.number ≤ begun.old.number + length piece.now) }
 {
     let mut text = String::new(alloc);
-    let good = take_piece(alloc, form, &mut text, begun, piece)?;
+    let good = take_piece(alloc, form, naming, &mut text, begun, piece)?;
     write_text(writer, text.as_bytes())?;
     Ok(good)
 }
@@ -50,6 +52,7 @@ fn write_piece<A: Allocator + Copy, W: Write>(
 fn end_input<A: Allocator + Copy, W: Write>(
     alloc: A,
     form: Form<'_>,
+    naming: Naming,
     begun: &Begun<A>,
     good: bool,
     writer: &mut W,
@@ -57,13 +60,22 @@ fn end_input<A: Allocator + Copy, W: Write>(
     requires { IsWithin begun.now.kept.items begun.now.is_long }
     ensures { (before : List ℕ) → IsUnderWay before begun.now.kept.items begun.now.is_long → MatchResult result
         (λ ends. Appends (W.contents writer.old) (W.contents writer.new)
-        (entry_text (form_view form.entry) (line begun.now.number before))
-        × (ends ≡ (good && is_good_entry (line begun.now.number before))))
-        (λ fault. IsUnended (form_view form.entry) before begun.now.number (W.contents writer.old) (W.contents writer.new) fault) }
+        (entry_text (form_view form.entry) (line naming begun.now.number before))
+        × (ends ≡ (good && is_good_entry (line naming begun.now.number before))))
+        (λ fault. IsUnended (form_view form.entry) naming before begun.now.number (W.contents writer.old)
+        (W.contents writer.new) fault) }
 {
     let mut text = String::new(alloc);
     let kept = begun.kept.as_slice();
-    let last = add_kept(alloc, form, &mut text, begun.number, kept, begun.is_long)?;
+    let last = add_kept(
+        alloc,
+        form,
+        naming,
+        &mut text,
+        begun.number,
+        kept,
+        begun.is_long,
+    )?;
     write_text(writer, text.as_bytes())?;
     Ok(good & last)
 }
@@ -78,7 +90,7 @@ fn end_input<A: Allocator + Copy, W: Write>(
 /// let mut lines: &[u8] = b"a: 62 03 48 01 07\n6203490107\n";
 /// let mut out = Vec::new(alloc);
 /// let form = Form { layout: Layout::Plain, names: None };
-/// assert_eq!(rt; judge_lines(alloc, form, &mut lines, &mut out), Ok(false));
+/// assert_eq!(rt; judge_lines(alloc, form, Naming::Marked, &mut lines, &mut out), Ok(false));
 /// assert_eq!(rt; out.as_slice(), b"a good\n2 fault incorrect place 2 element 2: expected the originating transaction identifier 0x48, found 0x49\n".as_slice());
 /// ```
 ///
@@ -89,14 +101,15 @@ fn end_input<A: Allocator + Copy, W: Write>(
 pub fn judge_lines<A: Allocator + Copy, R: Read, W: Write>(
     alloc: A,
     form: Form<'_>,
+    naming: Naming,
     reader: &mut R,
     writer: &mut W,
 ) -> Result<bool, JudgingFault>
     ensures { MatchResult result
-        (λ good. IsJudged (form_view form.entry) LinesTell (R.remaining reader.old) (R.remaining reader.new) (W.contents writer.old)
-        (W.contents writer.new) good)
-        (λ fault. IsUnjudged (form_view form.entry) LinesTell (R.remaining reader.old) (R.remaining reader.new) (W.contents writer.old)
-        (W.contents writer.new) fault) }
+        (λ good. IsJudged (form_view form.entry) (LinesTell naming) (R.remaining reader.old) (R.remaining reader.new)
+        (W.contents writer.old) (W.contents writer.new) good)
+        (λ fault. IsUnjudged (form_view form.entry) (LinesTell naming) (R.remaining reader.old) (R.remaining reader.new)
+        (W.contents writer.old) (W.contents writer.new) fault) }
 {
     let mut begun = Begun {
         kept: Vec::new(alloc),
@@ -110,9 +123,9 @@ pub fn judge_lines<A: Allocator + Copy, R: Read, W: Write>(
             return Err(JudgingFault::Read);
         };
         if count == 0 {
-            return end_input(alloc, form, &begun, good, writer);
+            return end_input(alloc, form, naming, &begun, good, writer);
         }
-        good &= write_piece(alloc, form, &mut begun, &piece[..count], writer)?;
+        good &= write_piece(alloc, form, naming, &mut begun, &piece[..count], writer)?;
     }
     Err(JudgingFault::TooLong)
 }

@@ -15,6 +15,7 @@ use crate::json_text::add_bad_object;
 use crate::label::{Label, label_of};
 use crate::line_parts::{LineParts, is_digit, parts_within};
 use crate::message_text::add_message;
+use crate::naming::Naming;
 use ber_core::OutOfMemory;
 use std::alloc::Allocator;
 use tcap_words::{add_decimal, hex_octets};
@@ -91,16 +92,17 @@ fn add_hex_line<A: Allocator + Copy>(
 pub(crate) fn add_line<A: Allocator + Copy>(
     alloc: A,
     form: Form<'_>,
+    naming: Naming,
     text: &mut String<A>,
     number: u64,
     octets: &[u8],
 ) -> Result<bool, OutOfMemory>
     requires { length octets.now ≤ line_limit }
     ensures text { OnOk result (string_bytes text.new ≡ string_bytes text.old
-        ++ entry_text (form_view form.entry) (line number octets.now)) }
-    ensures good { IfOk result (λ good. good ≡ is_good_entry (line number octets.now)) }
+        ++ entry_text (form_view form.entry) (line naming number octets.now)) }
+    ensures good { IfOk result (λ good. good ≡ is_good_entry (line naming number octets.now)) }
 {
-    match parts_within(octets) {
+    match parts_within(naming, octets) {
         LineParts::Blank => Ok(true),
         LineParts::Hex(name, hex) => {
             add_hex_line(alloc, form, text, number, label_of(number, name), hex)

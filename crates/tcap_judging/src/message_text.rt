@@ -1,13 +1,13 @@
 //! The line of a message.
 
-ghost use Rattle.std.specs.Prelude.{◌≡◌, ◌++◌, IfOk, OnOk, map, option_copied, option_map, string_bytes};
+ghost use Rattle.std.specs.Prelude.{◌≡◌, ◌++◌, IfOk, OnOk, string_bytes};
 ghost use Rattle.tcap_explain.specs.Explaining.{explained_at};
 ghost use Rattle.tcap_words.specs.Show.{show_is_good};
 ghost use Rattle.tcap_words.specs.Verdict.{verdict_of, verdict_words};
 ghost use Rattle.tcap_judging.specs.EntryText.{fault_words, message_words, named_words, plain_text, message_text};
 ghost use Rattle.tcap_judging.specs.MarkedText.{marked_text};
 ghost use Rattle.tcap_judging.specs.LineViews.{label_view};
-ghost use Rattle.tcap_judging.specs.NameViews.{form_view, named_view};
+ghost use Rattle.tcap_judging.specs.NameViews.{form_view, names_view};
 
 use crate::form::{Form, Layout};
 use crate::json_text::add_object;
@@ -90,7 +90,7 @@ fn add_named<A: Allocator + Copy>(
     octets: &[u8],
 ) -> Result<(), OutOfMemory>
     ensures { OnOk result (string_bytes text.new ≡ string_bytes text.old
-        ++ named_words (option_map (map named_view) (option_copied names.entry)) octets.now) }
+        ++ named_words (names_view names.entry) octets.now) }
 {
     match names {
         Some(names) => add_names(text, names, octets),
@@ -106,7 +106,7 @@ fn add_plain<A: Allocator + Copy>(
     octets: &[u8],
 ) -> Result<bool, OutOfMemory>
     ensures text { OnOk result (string_bytes text.new ≡ string_bytes text.old
-        ++ plain_text (option_map (map named_view) (option_copied names.entry)) (label_view called.entry) octets.now) }
+        ++ plain_text (names_view names.entry) (label_view called.entry) octets.now) }
     ensures good { IfOk result (λ good. good ≡ show_is_good octets.now) }
 {
     add_label(text, called)?;
@@ -125,7 +125,7 @@ fn add_marked<A: Allocator + Copy>(
     octets: &[u8],
 ) -> Result<bool, OutOfMemory>
     ensures text { OnOk result (string_bytes text.new ≡ string_bytes text.old
-        ++ (plain_text (option_map (map named_view) (option_copied names.entry)) (label_view called.entry) octets.now
+        ++ (plain_text (names_view names.entry) (label_view called.entry) octets.now
         ++ marked_text octets.now (explained_at octets.now))) }
     ensures good { IfOk result (λ good. good ≡ show_is_good octets.now) }
 {
@@ -148,6 +148,6 @@ pub(crate) fn add_message<A: Allocator + Copy>(
     match form.layout {
         Layout::Plain => add_plain(text, form.names, called, octets),
         Layout::Marked => add_marked(text, form.names, called, octets),
-        Layout::Json => add_object(text, called, octets),
+        Layout::Json => add_object(text, form.names, called, octets),
     }
 }

@@ -12,7 +12,7 @@ pub enum Refusal {
     BadCommand,
     /// The list of names can't be opened or read.
     NoNames,
-    /// The first line of the list of names that is neither a name nor a comment nor blank, by its number, counted from 1.
+    /// The first line of the list of names that is neither a name nor a comment nor blank, by its number from 1 on.
     BadNames(u64),
     /// Memory was refused, a read or a write failed, or the input is too long.
     Fault(JudgingFault),

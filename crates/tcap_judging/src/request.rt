@@ -1,6 +1,7 @@
 //! What the words of the command ask for.
 
 use crate::form::Layout;
+use crate::naming::Naming;
 
 /// What the words of the command ask for, and in which file the names are, if they are given.
 #[derive(Clone, Copy, Debug)]
@@ -16,8 +17,8 @@ pub enum Request {
     Help,
     /// `--version`: its name and version.
     Version,
-    /// The verdicts on the lines of standard input.
-    Lines(Layout),
+    /// The verdicts on the lines of standard input; `--named`: of which each first word is a name.
+    Lines(Layout, Naming),
     /// `--stream`: the verdicts on the messages of the stream on standard input.
     Stream(Layout),
     /// `--resync`: the same, going on behind a fault.

@@ -85,8 +85,8 @@ fn read_on<'a, A: Allocator + Copy>(
     octets: &'a [u8],
 ) -> Result<Stepped<'a>, OutOfMemory>
     requires { offset + length octets.now < 2 ^ 64 }
-    ensures adds { IfOk result (λ s. AddsSteps (form_view form.entry) ends (Place.Reading offset) octets.now s.place s.rest.now
-        s.is_over (string_bytes text.old) (string_bytes text.new) s.good) }
+    ensures adds { IfOk result (λ s. AddsSteps (form_view form.entry) ends (Place.Reading offset) octets.now s.place
+        s.rest.now s.is_over (string_bytes text.old) (string_bytes text.new) s.good) }
     ensures within { IfOk result (λ s. offset_at s.place + length s.rest.now ≡ offset + length octets.now) }
     ensures less { IfOk result (λ s. s.is_over ≡ false → left_at s.place (length s.rest.now) < 2 * length octets.now) }
 {
@@ -119,8 +119,8 @@ fn search_on<'a, A: Allocator + Copy>(
     octets: &'a [u8],
 ) -> Result<Stepped<'a>, OutOfMemory>
     requires { first + count + length octets.now < 2 ^ 64 }
-    ensures adds { IfOk result (λ s. AddsSteps (form_view form.entry) ends (Place.Searching first count) octets.now s.place s.rest.now
-        s.is_over (string_bytes text.old) (string_bytes text.new) s.good) }
+    ensures adds { IfOk result (λ s. AddsSteps (form_view form.entry) ends (Place.Searching first count) octets.now
+        s.place s.rest.now s.is_over (string_bytes text.old) (string_bytes text.new) s.good) }
     ensures within { IfOk result (λ s. offset_at s.place + length s.rest.now ≡ first + count + length octets.now) }
     ensures less { IfOk result (λ s. s.is_over ≡ false → left_at s.place (length s.rest.now) < 1 + 2 * length
         octets.now) }

@@ -33,8 +33,8 @@ fn take_more<A: Allocator + Copy>(
     piece: &[u8],
 ) -> Result<bool, OutOfMemory>
     requires { offset_at left.old.place + length left.old.kept.items + length piece.now < 2 ^ 64 }
-    ensures adds { IfOk result (λ good. AddsSteps (form_view form.entry) false left.old.place (left.old.kept.items ++ piece.now)
-        left.new.place left.new.kept.items true
+    ensures adds { IfOk result (λ good. AddsSteps (form_view form.entry) false left.old.place
+        (left.old.kept.items ++ piece.now) left.new.place left.new.kept.items true
         (string_bytes text.old) (string_bytes text.new) good) }
     ensures offset { OnOk result (offset_at left.new.place + length left.new.kept.items
         ≡ offset_at left.old.place + length left.old.kept.items + length piece.now) }
@@ -59,10 +59,10 @@ fn write_more<A: Allocator + Copy, W: Write>(
 ) -> Result<bool, JudgingFault>
     requires { offset_at left.old.place + length left.old.kept.items + length piece.now < 2 ^ 64 }
     ensures writes { MatchResult result
-        (λ good. WritesSteps (form_view form.entry) left.old.place (left.old.kept.items ++ piece.now) left.new.place left.new.kept.items
-        (W.contents writer.old) (W.contents writer.new) good)
-        (λ fault. AreStepsUntaken (form_view form.entry) left.old.place (left.old.kept.items ++ piece.now) (W.contents writer.old)
-        (W.contents writer.new) fault) }
+        (λ good. WritesSteps (form_view form.entry) left.old.place (left.old.kept.items ++ piece.now) left.new.place
+        left.new.kept.items (W.contents writer.old) (W.contents writer.new) good)
+        (λ fault. AreStepsUntaken (form_view form.entry) left.old.place (left.old.kept.items ++ piece.now)
+        (W.contents writer.old) (W.contents writer.new) fault) }
     ensures offset { OnOk result (offset_at left.new.place + length left.new.kept.items
         ≡ offset_at left.old.place + length left.old.kept.items + length piece.now) }
 {
@@ -93,10 +93,10 @@ fn end_more<A: Allocator + Copy, W: Write>(
 ) -> Result<bool, JudgingFault>
     requires { offset_at left.now.place + length left.now.kept.items < 2 ^ 64 }
     ensures { MatchResult result
-        (λ ends. WritesEnd (form_view form.entry) left.now.place left.now.kept.items (W.contents writer.old) (W.contents writer.new)
-        good ends)
-        (λ fault. IsEndUntold (form_view form.entry) left.now.place left.now.kept.items (W.contents writer.old) (W.contents writer.new)
-        fault) }
+        (λ ends. WritesEnd (form_view form.entry) left.now.place left.now.kept.items (W.contents writer.old)
+        (W.contents writer.new) good ends)
+        (λ fault. IsEndUntold (form_view form.entry) left.now.place left.now.kept.items (W.contents writer.old)
+        (W.contents writer.new) fault) }
 {
     if !has_more(left) {
         return Ok(good);
@@ -132,8 +132,8 @@ pub fn judge_resynced<A: Allocator + Copy, R: Read, W: Write>(
     writer: &mut W,
 ) -> Result<bool, JudgingFault>
     ensures { MatchResult result
-        (λ good. IsJudged (form_view form.entry) ResyncTells (R.remaining reader.old) (R.remaining reader.new) (W.contents writer.old)
-        (W.contents writer.new) good)
+        (λ good. IsJudged (form_view form.entry) ResyncTells (R.remaining reader.old) (R.remaining reader.new)
+        (W.contents writer.old) (W.contents writer.new) good)
         (λ fault. IsUnjudged (form_view form.entry) ResyncTells (R.remaining reader.old) (R.remaining reader.new)
         (W.contents writer.old) (W.contents writer.new) fault) }
 {

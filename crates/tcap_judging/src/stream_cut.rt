@@ -3,15 +3,17 @@
 ghost use Rattle.std.specs.Prelude.{◌≡◌, ◌<◌, ◌≤◌, ◌+◌, ◌^◌, ◌++◌, List, [], ℕ, length, take, drop, IfOk, MatchResult, OnOk, None, string_bytes};
 ghost use Rattle.ber_core.specs.Stream.{cut_into, cut_of, rest_fault, with_message};
 ghost use Rattle.tcap_judging.specs.Entry.{broken_entries, judged_by};
-ghost use Rattle.tcap_judging.specs.EntryText.{entries_text, are_good};
+ghost use Rattle.tcap_judging.specs.EntryText.{entries_text, are_good, plain_unread_text, unread_text};
 ghost use Rattle.tcap_judging.specs.StreamSteps.{AddsMessages, AddsOctets};
 ghost use Rattle.tcap_judging.specs.NameViews.{form_view};
 
-use crate::form::Form;
+use crate::form::{Form, Layout};
+use crate::json_text::add_unread_object;
 use crate::label::Label;
 use crate::message_text::add_message;
 use ber_core::{BerFault, FeedFault, MAX_LENGTH, OutOfMemory, read_element};
 use std::alloc::Allocator;
+use tcap_words::add_decimal;
 
 /// What stands behind the messages of some octets, the offset of its first octet, the fault that stands there, if one
 /// does, and whether all of the messages are good.
@@ -91,8 +93,8 @@ pub(crate) fn add_messages<'a, A: Allocator + Copy>(
     octets: &'a [u8],
 ) -> Result<Cut<'a>, OutOfMemory>
     requires { offset + length octets.now < 2 ^ 64 }
-    ensures adds { IfOk result (λ cut. AddsMessages (form_view form.entry) octets.now offset cut.rest.now cut.offset cut.fault
-        (string_bytes text.old) (string_bytes text.new) cut.good) }
+    ensures adds { IfOk result (λ cut. AddsMessages (form_view form.entry) octets.now offset cut.rest.now cut.offset
+        cut.fault (string_bytes text.old) (string_bytes text.new) cut.good) }
     ensures within { IfOk result (λ cut. cut.offset + length cut.rest.now ≡ offset + length octets.now) }
 {
     let mut good = true;
@@ -132,7 +134,33 @@ pub(crate) fn judged_by(fault: FeedFault) -> usize
     }
 }
 
-/// Adds the line of the octets behind the last message where a fault stands there, and tells whether it is good.
+/// Adds the line that nothing is read behind octets at which no message is, by the offset of the first.
+fn add_plain_unread<A: Allocator + Copy>(
+    text: &mut String<A>,
+    offset: u64,
+) -> Result<(), OutOfMemory>
+    ensures { OnOk result (string_bytes text.new ≡ string_bytes text.old ++ plain_unread_text offset) }
+{
+    add_decimal(text, offset)?;
+    Ok(text.push_str(" stopped: nothing behind this fault is judged\n")?)
+}
+
+/// Adds what is printed where nothing is read behind such octets.
+fn add_unread<A: Allocator + Copy>(
+    layout: Layout,
+    text: &mut String<A>,
+    offset: u64,
+) -> Result<(), OutOfMemory>
+    ensures { OnOk result (string_bytes text.new ≡ string_bytes text.old ++ unread_text layout offset) }
+{
+    match layout {
+        Layout::Json => add_unread_object(text, offset),
+        Layout::Plain | Layout::Marked => add_plain_unread(text, offset),
+    }
+}
+
+/// Adds the line of the octets behind the last message where a fault stands there, and the line that nothing behind
+/// them is read. Tells whether all is good.
 fn add_broken<A: Allocator + Copy>(
     form: Form<'_>,
     text: &mut String<A>,
@@ -145,12 +173,12 @@ fn add_broken<A: Allocator + Copy>(
     ensures good { IfOk result (λ good. good ≡ are_good (broken_entries offset rest.now fault)) }
 {
     match fault {
-        Some(why) => add_message(
-            form,
-            text,
-            Label::Offset(offset),
-            front(rest, judged_by(why)),
-        ),
+        Some(why) => {
+            let judged = front(rest, judged_by(why));
+            add_message(form, text, Label::Offset(offset), judged)?;
+            add_unread(form.layout, text, offset)?;
+            Ok(false)
+        }
         None => Ok(true),
     }
 }
@@ -165,9 +193,9 @@ pub(crate) fn take_octets<A: Allocator + Copy>(
     piece: &[u8],
 ) -> Result<bool, OutOfMemory>
     requires { behind.old.offset + length behind.old.kept.items + length piece.now < 2 ^ 64 }
-    ensures adds { IfOk result (λ good. AddsOctets (form_view form.entry) (behind.old.kept.items ++ piece.now) behind.old.offset
-        behind.new.kept.items
-        behind.new.offset behind.new.fault (string_bytes text.old) (string_bytes text.new) good) }
+    ensures adds { IfOk result (λ good. AddsOctets (form_view form.entry) (behind.old.kept.items ++ piece.now)
+        behind.old.offset behind.new.kept.items behind.new.offset behind.new.fault (string_bytes text.old)
+        (string_bytes text.new) good) }
     ensures offset { OnOk result (behind.new.offset + length behind.new.kept.items
         ≡ behind.old.offset + length behind.old.kept.items + length piece.now) }
 {

@@ -29,11 +29,10 @@ fn write_octets<A: Allocator + Copy, W: Write>(
 ) -> Result<bool, JudgingFault>
     requires { behind.old.offset + length behind.old.kept.items + length piece.now < 2 ^ 64 }
     ensures writes { MatchResult result
-        (λ good. WritesOctets (form_view form.entry) (behind.old.kept.items ++ piece.now) behind.old.offset behind.new.kept.items
-        behind.new.offset behind.new.fault
-        (W.contents writer.old) (W.contents writer.new) good)
-        (λ fault. AreOctetsUntaken (form_view form.entry) (behind.old.kept.items ++ piece.now) behind.old.offset (W.contents writer.old)
-        (W.contents writer.new) fault) }
+        (λ good. WritesOctets (form_view form.entry) (behind.old.kept.items ++ piece.now) behind.old.offset
+        behind.new.kept.items behind.new.offset behind.new.fault (W.contents writer.old) (W.contents writer.new) good)
+        (λ fault. AreOctetsUntaken (form_view form.entry) (behind.old.kept.items ++ piece.now) behind.old.offset
+        (W.contents writer.old) (W.contents writer.new) fault) }
     ensures offset { OnOk result (behind.new.offset + length behind.new.kept.items
         ≡ behind.old.offset + length behind.old.kept.items + length piece.now) }
 {
@@ -72,8 +71,8 @@ fn end_stream<A: Allocator + Copy, W: Write>(
 /// Judges the messages of the stream that the reader gives, cut anywhere, and writes a line for each: the offset of its
 /// first octet, the verdict, and where that isn't good the place of the fault, counted from that octet, and the rule
 /// that isn't met there. Where no message can begin behind them, or the stream ends within one, these octets are judged
-/// too; behind the former no more is read. Tells whether every message is good and nothing stands behind the last. What
-/// can be written is written before the next read.
+/// too; behind the former no more is read, and a line says so. Tells whether every message is good and nothing stands
+/// behind the last. What can be written is written before the next read.
 ///
 /// ```rust
 /// let mut stream: &[u8] = &[0x62, 0x03, 0x48, 0x01, 0x07, 0x62, 0x03];
@@ -93,8 +92,8 @@ pub fn judge_stream<A: Allocator + Copy, R: Read, W: Write>(
     writer: &mut W,
 ) -> Result<bool, JudgingFault>
     ensures { MatchResult result
-        (λ good. IsJudged (form_view form.entry) StreamTells (R.remaining reader.old) (R.remaining reader.new) (W.contents writer.old)
-        (W.contents writer.new) good)
+        (λ good. IsJudged (form_view form.entry) StreamTells (R.remaining reader.old) (R.remaining reader.new)
+        (W.contents writer.old) (W.contents writer.new) good)
         (λ fault. IsUnjudged (form_view form.entry) StreamTells (R.remaining reader.old) (R.remaining reader.new)
         (W.contents writer.old) (W.contents writer.new) fault) }
 {

@@ -9,6 +9,7 @@ ghost use Rattle.tcap_judging.specs.NameViews.{form_view};
 use crate::bad_line::BadLine;
 use crate::form::Form;
 use crate::line_text::{add_bad_line, add_line};
+use crate::naming::Naming;
 use ber_core::OutOfMemory;
 use std::alloc::Allocator;
 
@@ -37,6 +38,7 @@ pub(crate) fn keep<A: Allocator + Copy>(
 pub(crate) fn add_kept<A: Allocator + Copy>(
     alloc: A,
     form: Form<'_>,
+    naming: Naming,
     text: &mut String<A>,
     number: u64,
     kept: &[u8],
@@ -44,13 +46,14 @@ pub(crate) fn add_kept<A: Allocator + Copy>(
 ) -> Result<bool, OutOfMemory>
     requires { IsWithin kept.now is_long }
     ensures text { (octets : List ℕ) → AreKept octets kept.now is_long
-        → OnOk result (string_bytes text.new ≡ string_bytes text.old ++ entry_text (form_view form.entry) (line number octets)) }
+        → OnOk result (string_bytes text.new ≡ string_bytes text.old
+        ++ entry_text (form_view form.entry) (line naming number octets)) }
     ensures good { (octets : List ℕ) → AreKept octets kept.now is_long
-        → IfOk result (λ good. good ≡ is_good_entry (line number octets)) }
+        → IfOk result (λ good. good ≡ is_good_entry (line naming number octets)) }
 {
     if is_long {
         add_bad_line(form.layout, text, number, BadLine::TooLong)?;
         return Ok(false);
     }
-    add_line(alloc, form, text, number, kept)
+    add_line(alloc, form, naming, text, number, kept)
 }

@@ -2,10 +2,11 @@
 
 ghost use Rattle.std.specs.Prelude.{◌≡◌, ◌⊎◌, map, true, false, IfOk, MatchResult, option_map};
 ghost use Rattle.clap.specs.Words.{app_of, rule_of, rows_of, found_of, first_of};
-ghost use Rattle.tcap_judging.specs.CommandLine.{Ask, AskNames, AskNothing, is_mixed, is_set, judge_app, layout_by, names_by, names_rule, option_rule, reading_app, request_by};
+ghost use Rattle.tcap_judging.specs.CommandLine.{Ask, AskNames, AskNothing, is_mixed, is_reading, is_set, is_streamed, judge_app, layout_by, line_app, names_by, names_rule, naming_by, option_rule, reading_app, request_by};
 
 use crate::fault::JudgingFault;
 use crate::form::Layout;
+use crate::naming::Naming;
 use crate::refusal::Refusal;
 use crate::request::{Asked, Request};
 use clap::error::ErrorKind;
@@ -42,12 +43,19 @@ fn reading_command<'a>(alloc: Global) -> Result<Command<'a>, AllocError>
         .arg(option(alloc, "stream"))
 }
 
+/// The command `tcap_judge` with the options that say what is read.
+fn line_command<'a>(alloc: Global) -> Result<Command<'a>, AllocError>
+    ensures { IfOk result (λ c. app_of c ≡ line_app) }
+{
+    reading_command(alloc)?.arg(option(alloc, "named"))
+}
+
 /// The command `tcap_judge` with its options.
 #[tactic(auto, unfolding(crate::specs::CommandLine::judge_app))]
 fn judge_command<'a>(alloc: Global) -> Result<Command<'a>, AllocError>
     ensures { IfOk result (λ c. app_of c ≡ judge_app) }
 {
-    reading_command(alloc)?
+    line_command(alloc)?
         .arg(option(alloc, "resync"))?
         .arg(option(alloc, "explain"))?
         .arg(option(alloc, "json"))?
@@ -77,6 +85,17 @@ fn layout_of(matches: &ArgMatches<'_>) -> Layout
     }
 }
 
+/// Which first words of lines the options that were found ask to take for names.
+fn naming_of(matches: &ArgMatches<'_>) -> Naming
+    ensures { result ≡ naming_by (rows_of (found_of matches.now)) }
+{
+    if is_set(matches, "named") {
+        Naming::All
+    } else {
+        Naming::Marked
+    }
+}
+
 /// What the options that were found ask for.
 fn request_of(matches: &ArgMatches<'_>) -> Request
     ensures { result ≡ request_by (rows_of (found_of matches.now)) }
@@ -90,7 +109,7 @@ fn request_of(matches: &ArgMatches<'_>) -> Request
     } else if is_set(matches, "stream") {
         Request::Stream(layout_of(matches))
     } else {
-        Request::Lines(layout_of(matches))
+        Request::Lines(layout_of(matches), naming_of(matches))
     }
 }
 
@@ -101,22 +120,36 @@ fn value_of<'a>(matches: &ArgMatches<'a>, name: &str) -> Option<&'a str>
     matches.get_str(name)
 }
 
+/// Whether the options ask for something that is read.
+fn is_reading(matches: &ArgMatches<'_>) -> bool
+    ensures { result ≡ is_reading (rows_of (found_of matches.now)) }
+{
+    !(is_set(matches, "help") || is_set(matches, "version"))
+}
+
 /// The file of names that the options tell, where something is read.
 fn names_of<'a>(matches: &ArgMatches<'a>) -> Option<&'a str>
     ensures { option_map (λ t. t.now) result ≡ names_by (rows_of (found_of matches.now)) }
 {
-    if is_set(matches, "help") || is_set(matches, "version") {
-        None
-    } else {
+    if is_reading(matches) {
         value_of(matches, "names")
+    } else {
+        None
     }
 }
 
-/// Whether the options ask for names in JSON, which has none.
+/// Whether the options ask for a stream.
+fn is_streamed(matches: &ArgMatches<'_>) -> bool
+    ensures { result ≡ is_streamed (rows_of (found_of matches.now)) }
+{
+    is_set(matches, "stream") || is_set(matches, "resync")
+}
+
+/// Whether the options ask for the names of lines in a stream, which has none.
 fn is_mixed(matches: &ArgMatches<'_>) -> bool
     ensures { result ≡ is_mixed (rows_of (found_of matches.now)) }
 {
-    is_set(matches, "json") && names_of(matches).is_some()
+    is_reading(matches) && is_set(matches, "named") && is_streamed(matches)
 }
 
 /// What the options that were found ask for, if they ask for something.
@@ -159,8 +192,8 @@ pub(crate) fn read_words<'a>(alloc: Global, words: &'a [&'a str]) -> Result<Aske
 ///
 /// # Errors
 ///
-/// `BadCommand` where the words are none of the command's, or ask for names in JSON; `OutOfMemory` where memory was
-/// refused.
+/// `BadCommand` where the words are none of the command's, or ask for the names of lines in a stream; `OutOfMemory`
+/// where memory was refused.
 pub fn names_file<'a>(alloc: Global, words: &'a [&'a str]) -> Result<Option<&'a str>, Refusal>
     ensures { MatchResult result (λ file. AskNames (map (λ w. w.now) words.now) (option_map (λ t. t.now) file))
         (λ refusal. (refusal ≡ Refusal.Fault JudgingFault.OutOfMemory)

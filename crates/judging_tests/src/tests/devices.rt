@@ -5,7 +5,7 @@ use std::alloc::Global;
 use std::io;
 use std::io::{ErrorKind, Read, Write};
 use std::test::Fail;
-use tcap_judging::{JudgingFault, judge_lines};
+use tcap_judging::{JudgingFault, Naming, judge_lines};
 
 /// A reader of some octets, so many a read, which may fail on the way.
 #[derive(Drop)]
@@ -97,7 +97,7 @@ fn reads_that_fail(rt: HostRuntime) -> Result<(), Fail> {
             reads: 0,
         };
         let mut out = Vec::new(rt.alloc());
-        let ran = judge_lines(rt.alloc(), PLAIN, &mut reader, &mut out);
+        let ran = judge_lines(rt.alloc(), PLAIN, Naming::Marked, &mut reader, &mut out);
         let written = lines.saturating_mul(7);
         let is_front = out.len() == written && PRINTED.starts_with(out.as_slice());
         assert!(rt; ran == *answer && is_front, "at {width}, {failing}");
@@ -115,7 +115,7 @@ fn failed_writes(alloc: Global, input: &[u8], width: usize, wanted: &[u8]) -> Op
             failing: number,
             writes: 0,
         };
-        let ran = judge_lines(alloc, PLAIN, &mut reader, &mut out);
+        let ran = judge_lines(alloc, PLAIN, Naming::Marked, &mut reader, &mut out);
         let taken = out.taken.as_slice();
         if out.writes < number {
             return (ran == Ok(true) && taken == wanted).then_some(number - 1);

@@ -4,7 +4,7 @@ use super::words::PLAIN;
 use refusing::Refusing;
 use std::alloc::Global;
 use std::test::Fail;
-use tcap_judging::{JudgingFault, judge_lines};
+use tcap_judging::{JudgingFault, Naming, judge_lines};
 
 /// Lines, and what they print.
 const ROWS: &[(&str, &str, u64)] = &[
@@ -17,7 +17,7 @@ const ROWS: &[(&str, &str, u64)] = &[
     ("6203480107", "1 good\n", 2),
     (
         "zz:\n620",
-        "line 1 bad: no hexadecimal digits\nline 2 bad: an odd number of hexadecimal digits\n",
+        "line 1 bad: no hexadecimal digits behind the name\nline 2 bad: an odd number of hexadecimal digits\n",
         2,
     ),
     ("\n \n", "", 1),
@@ -36,7 +36,7 @@ fn refused_growths(
         let mut reader = input;
         let mut out = Vec::new(alloc);
         heap.refuse(number);
-        let ran = judge_lines(heap, PLAIN, &mut reader, &mut out);
+        let ran = judge_lines(heap, PLAIN, Naming::Marked, &mut reader, &mut out);
         if heap.is_armed() {
             heap.refuse(0);
             return (ran.is_ok() && out.as_slice() == wanted).then_some(told);

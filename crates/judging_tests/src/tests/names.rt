@@ -2,7 +2,9 @@
 
 use std::alloc::Global;
 use std::test::Fail;
-use tcap_judging::{NameKind, NamesFault, name_for, names_text, read_names};
+use tcap_judging::{
+    Form, Layout, NameKind, Named, NamesFault, judge_stream, name_for, names_text, read_names,
+};
 
 /// A list, and its bad line, or 0.
 const LISTS: &[(&str, u64)] = &[
@@ -69,8 +71,8 @@ fn names_by_kind_and_number(rt: HostRuntime) -> Result<(), Fail> {
 const MAP: &str =
     "operation 2 updateLocation\noperation 46 mo-ForwardSM\nerror 27 absentSubscriber\ncontext 0.4.0.0.1.0.1.3 networkLocUpContext-v3\n";
 
-/// Octets, and what they name.
-const NAMING: &[(&[u8], &str)] = &[
+/// Octets, what they name, and how their object ends.
+const NAMING: &[(&[u8], &str, &str)] = &[
     // A Begin with an AARQ and an Invoke.
     (
         &[
@@ -80,6 +82,7 @@ const NAMING: &[(&[u8], &str)] = &[
             0x01, 0x01, 0x02, 0x01, 0x02,
         ],
         "; context 0.4.0.0.1.0.1.3 networkLocUpContext-v3; invoke 1 updateLocation",
+        "\"good\":true,\"context\":\"0.4.0.0.1.0.1.3\",\"context_name\":\"networkLocUpContext-v3\",\"components\":[{\"kind\":\"invoke\",\"id\":1,\"operation\":\"updateLocation\"}]}\n",
     ),
     // Each other kind of component: a result with its code and one without, an error, a Reject, a result that isn't
     // the last, a global code.
@@ -92,6 +95,7 @@ const NAMING: &[(&[u8], &str)] = &[
             0x03, 0x04,
         ],
         "; result 1 mo-ForwardSM; result 2; error 3 absentSubscriber; reject 4; result more 5 mo-ForwardSM; error 6 1.2.3.4",
+        "\"good\":true,\"components\":[{\"kind\":\"result\",\"id\":1,\"operation\":\"mo-ForwardSM\"},{\"kind\":\"result\",\"id\":2},{\"kind\":\"error\",\"id\":3,\"error\":\"absentSubscriber\"},{\"kind\":\"reject\",\"id\":4},{\"kind\":\"result more\",\"id\":5,\"operation\":\"mo-ForwardSM\"},{\"kind\":\"error\",\"id\":6,\"error\":\"1.2.3.4\"}]}\n",
     ),
     // The second component is none.
     (
@@ -100,6 +104,7 @@ const NAMING: &[(&[u8], &str)] = &[
             0x02, 0x04, 0x00,
         ],
         "; invoke 1 updateLocation",
+        "\"found\":\"0x04\",\"components\":[{\"kind\":\"invoke\",\"id\":1,\"operation\":\"updateLocation\"}]}\n",
     ),
     // The list has no such operation; its errors aren't looked at.
     (
@@ -108,6 +113,7 @@ const NAMING: &[(&[u8], &str)] = &[
             0x1b,
         ],
         "; invoke -1 27",
+        "\"good\":true,\"components\":[{\"kind\":\"invoke\",\"id\":-1,\"operation\":\"27\"}]}\n",
     ),
     // A Reject that names no invocation.
     (
@@ -115,6 +121,16 @@ const NAMING: &[(&[u8], &str)] = &[
             0x62, 0x0c, 0x48, 0x01, 0x07, 0x6c, 0x07, 0xa4, 0x05, 0x05, 0x00, 0x80, 0x01, 0x00,
         ],
         "; reject -",
+        "\"good\":true,\"components\":[{\"kind\":\"reject\",\"id\":null}]}\n",
+    ),
+    // A global code with a number above 4,294,967,295.
+    (
+        &[
+            0x64, 0x12, 0x49, 0x01, 0x07, 0x6c, 0x0d, 0xa3, 0x0b, 0x02, 0x01, 0x01, 0x06, 0x06,
+            0x2a, 0x90, 0x80, 0x80, 0x80, 0x00,
+        ],
+        "; error 1 0x2a9080808000",
+        "\"good\":true,\"components\":[{\"kind\":\"error\",\"id\":1,\"error\":\"0x2a9080808000\"}]}\n",
     ),
     // A dialogue portion that can't be read.
     (
@@ -123,30 +139,47 @@ const NAMING: &[(&[u8], &str)] = &[
             0x01, 0x01, 0x02, 0x01, 0x02,
         ],
         "; invoke 1 updateLocation",
+        ",\"components\":[{\"kind\":\"invoke\",\"id\":1,\"operation\":\"updateLocation\"}]}\n",
     ),
     // No component, and no message.
-    (&[0x62, 0x03, 0x48, 0x01, 0x07], ""),
-    (&[0x62, 0x03, 0x49, 0x01, 0x07], ""),
+    (&[0x62, 0x03, 0x48, 0x01, 0x07], "", "\"good\":true}\n"),
+    (&[0x62, 0x03, 0x49, 0x01, 0x07], "", "\"found\":\"0x49\"}\n"),
 ];
 
-/// Whether octets name this by a list.
-fn names(alloc: Global, list: &str, octets: &[u8], wanted: &str) -> bool {
+/// Whether the object of octets ends so, by these names.
+fn ends_so(alloc: Global, names: &[Named<'_>], octets: &[u8], end: &str) -> bool {
+    let form = Form {
+        layout: Layout::Json,
+        names: Some(names),
+    };
+    let mut reader = octets;
+    let mut out = Vec::new(alloc);
+    judge_stream(alloc, form, &mut reader, &mut out).is_ok() && out.ends_with(end.as_bytes())
+}
+
+/// Whether octets name this by a list, and their object ends so.
+fn names(alloc: Global, list: &str, octets: &[u8], wanted: &str, end: &str) -> bool {
     let Ok(names) = read_names(alloc, list.as_bytes()) else {
         return false;
     };
     match names_text(alloc, names.as_slice(), octets) {
-        Ok(text) => text.as_str() == wanted,
+        Ok(text) => text.as_str() == wanted && ends_so(alloc, names.as_slice(), octets, end),
         Err(_) => false,
     }
 }
 
 #[test]
 fn names_in_messages(rt: HostRuntime) -> Result<(), Fail> {
-    for (octets, wanted) in NAMING {
-        assert!(rt; names(rt.alloc(), MAP, octets, wanted), "at {wanted:?}");
+    for (octets, wanted, end) in NAMING {
+        assert!(rt;
+            names(rt.alloc(), MAP, octets, wanted, end),
+            "at {wanted:?}"
+        );
     }
-    let (first, _) = NAMING[0];
+    let (first, _, _) = NAMING[0];
     let numbers = "; context 0.4.0.0.1.0.1.3; invoke 1 2";
-    assert!(rt; names(rt.alloc(), "", first, numbers));
+    let end =
+        "\"good\":true,\"context\":\"0.4.0.0.1.0.1.3\",\"components\":[{\"kind\":\"invoke\",\"id\":1,\"operation\":\"2\"}]}\n";
+    assert!(rt; names(rt.alloc(), "", first, numbers, end));
     Ok(())
 }

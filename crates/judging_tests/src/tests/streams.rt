@@ -23,16 +23,30 @@ const ROWS: &[(&[u8], u8, &str)] = &[
         1,
         "0 good\n5 fault badly formatted place 3 element 0: expected 2 more octets, found the end\n",
     ),
-    // Nothing is told behind octets at which no message can begin.
+    // Nothing is judged behind octets at which no message can begin, and a line says so.
     (
         &[
             0x62, 0x03, 0x48, 0x01, 0x07, 0x62, 0x83, 0x01, 0x00, 0x00, 0x62, 0x03, 0x48, 0x01,
             0x07,
         ],
         1,
-        "0 good\n5 fault badly formatted place 4 element 0: expected a length of at most 65535, found 0x00\n",
+        "0 good\n5 fault badly formatted place 4 element 0: expected a length of at most 65535, found 0x00\n5 stopped: nothing behind this fault is judged\n",
     ),
 ];
+
+/// Where a run stops, in JSON: two octets at which no message can begin, and a good message.
+#[test]
+fn stopped_in_json(rt: HostRuntime) -> Result<(), Fail> {
+    let ran = run(
+        rt.alloc(),
+        &["--stream", "--json"],
+        &[0x62, 0xff, 0x62, 0x03, 0x48, 0x01, 0x07],
+    );
+    let wanted =
+        b"{\"offset\":0,\"verdict\":\"fault badly formatted\",\"good\":false,\"place\":1,\"element\":0,\"expected\":\"a length of at most 65535\",\"found\":\"0xff\"}\n{\"offset\":0,\"stopped\":true}\n";
+    assert!(rt; ran.is(1, wanted, b""));
+    Ok(())
+}
 
 /// A reader of one octet at a time.
 #[derive(Drop)]
@@ -88,7 +102,7 @@ fn streams_of_the_greatest_length(rt: HostRuntime) -> Result<(), Fail> {
         (
             &[0x04, 0x82, 0xff, 0xfc],
             70_000,
-            b"0 fault too long place 65535 element 0: expected at most 65535 octets, found 65536 octets\n",
+            b"0 fault too long place 65535 element 0: expected at most 65535 octets, found 65536 octets\n0 stopped: nothing behind this fault is judged\n",
         ),
     ];
     for (head, len, wanted) in rows {

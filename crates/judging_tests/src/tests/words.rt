@@ -84,9 +84,22 @@ const ROWS: &[(&[&str], u8, &str, &str)] = &[
     (&["--version", "--version"], 2, "", BAD),
     (&["-x"], 2, "", BAD),
     (&["--names"], 2, "", BAD),
-    (&["--names", "list", "--json"], 2, "", BAD),
     (
-        &["--names", "list", "--json", "--help"],
+        &["--names", "list", "--json"],
+        0,
+        "{\"line\":1,\"verdict\":\"good\",\"good\":true}\n",
+        "",
+    ),
+    (
+        &["--named"],
+        1,
+        "line 1 bad: no hexadecimal digits behind the name\n",
+        "",
+    ),
+    (&["--named", "--stream"], 2, "", BAD),
+    (&["--resync", "--named"], 2, "", BAD),
+    (
+        &["--named", "--stream", "--help"],
         0,
         "Usage: tcap_judge ",
         "",
@@ -122,7 +135,14 @@ const INPUTS: &[(&str, u8, &str)] = &[
     (
         "6203480107\nx\n",
         1,
-        "1 good\nline 2 bad: no hexadecimal digits\n",
+        "1 good\nline 2 bad: no hexadecimal digits behind the name\n",
+    ),
+    // Colons alone are no name.
+    (":\n", 1, "line 1 bad: no hexadecimal digits\n"),
+    (
+        "m ::\n",
+        1,
+        "line 1 bad: no hexadecimal digits behind the name\n",
     ),
 ];
 
@@ -136,12 +156,40 @@ fn lines_of_an_input(rt: HostRuntime) -> Result<(), Fail> {
     Ok(())
 }
 
+/// Lines of which each first word is a name, and what is written.
+const NAMED_LINES: &[(&str, u8, &str)] = &[
+    ("12\t6203480107\n", 0, "12 good\n"),
+    // A colon at its end is no part of it.
+    ("ab: 62:03:48:01:07\nm 6203480107\n", 0, "ab good\nm good\n"),
+    (": 6203480107\n", 0, ": good\n"),
+    (
+        "12 62034801\n",
+        1,
+        "12 fault badly formatted place 4 element 0: expected 1 more octet, found the end\n",
+    ),
+    (
+        "6203480107\n\n62 x\n",
+        1,
+        "line 1 bad: no hexadecimal digits behind the name\nline 3 bad: column 4: expected a hexadecimal digit, found 0x78\n",
+    ),
+];
+
+#[test]
+fn lines_with_names(rt: HostRuntime) -> Result<(), Fail> {
+    let alloc = rt.alloc();
+    for (input, status, written) in NAMED_LINES {
+        let ran = run(alloc, &["--named"], input.as_bytes());
+        assert!(rt; ran.is(*status, written.as_bytes(), b""), "at {input:?}");
+    }
+    Ok(())
+}
+
 /// The option, the input, and what is written.
 const FORMS: &[(&str, &str, &str)] = &[
     (
         "--json",
         "m 6207480500000000012\nm 620748050000000001\nzz\n",
-        "{\"line\":1,\"bad\":\"an odd number of hexadecimal digits\"}\n{\"name\":\"m\",\"verdict\":\"fault incorrect\",\"good\":false,\"place\":4,\"element\":2,\"expected\":\"a transaction identifier of 1 to 4 octets\",\"found\":\"5 octets from 0x00\"}\n{\"line\":3,\"bad\":\"no hexadecimal digits\"}\n",
+        "{\"line\":1,\"bad\":\"an odd number of hexadecimal digits\"}\n{\"name\":\"m\",\"verdict\":\"fault incorrect\",\"good\":false,\"place\":4,\"element\":2,\"expected\":\"a transaction identifier of 1 to 4 octets\",\"found\":\"5 octets from 0x00\"}\n{\"line\":3,\"bad\":\"no hexadecimal digits behind the name\"}\n",
     ),
     (
         "--explain",
@@ -181,6 +229,7 @@ const FILES: &[(&[&str], Option<&str>)] = &[
     (&["--stream"], None),
     (&["--names", "list"], Some("list")),
     (&["--names=list", "--stream"], Some("list")),
+    (&["--names", "list", "--json"], Some("list")),
     (&["--names", "list", "--help"], None),
     (&["--version", "--names", "list"], None),
 ];
@@ -194,7 +243,7 @@ fn files_of_names(rt: HostRuntime) -> Result<(), Fail> {
         };
         assert!(rt; is_so, "at {words:?}");
     }
-    assert!(rt; names_file(rt.alloc(), &["--names", "list", "--json"]).is_err());
+    assert!(rt; names_file(rt.alloc(), &["--names", "list", "--named", "--resync"]).is_err());
     Ok(())
 }
 
@@ -215,9 +264,15 @@ fn is_named(alloc: Global, words: &[&str], list: &str, written: &str) -> bool {
     ran.is(1, written.as_bytes(), b"")
 }
 
+/// What is written of them in JSON.
+const NAMED_OBJECTS: &str =
+    "{\"name\":\"m\",\"verdict\":\"good\",\"good\":true,\"components\":[{\"kind\":\"invoke\",\"id\":1,\"operation\":\"updateLocation\"}]}\n{\"line\":2,\"verdict\":\"fault badly formatted\",\"good\":false,\"place\":3,\"element\":0,\"expected\":\"2 more octets\",\"found\":\"the end\"}\n{\"name\":\"n\",\"verdict\":\"fault component 2\",\"good\":false,\"place\":15,\"element\":15,\"expected\":\"a component 0xa1, 0xa2, 0xa3, 0xa4 or 0xa7\",\"found\":\"0x04\",\"components\":[{\"kind\":\"invoke\",\"id\":1,\"operation\":\"updateLocation\"}]}\n";
+
 #[test]
 fn names_behind_verdicts(rt: HostRuntime) -> Result<(), Fail> {
-    let words = ["--names", "list"];
-    assert!(rt; is_named(rt.alloc(), &words, "operation 2 updateLocation\n", NAMED));
+    let alloc = rt.alloc();
+    let list = "operation 2 updateLocation\n";
+    assert!(rt; is_named(alloc, &["--names", "list"], list, NAMED));
+    assert!(rt; is_named(alloc, &["--names", "list", "--json"], list, NAMED_OBJECTS));
     Ok(())
 }

@@ -10,7 +10,7 @@ abbrev pub invariant-loop-line : goal.invariant-loop-line
 invariant-loop-line g l =
     (l.begun.number + length l.rest ≤ l.fn.begun.number + length l.piece)
     × ((before : List ℕ) → IsUnderWay before l.fn.begun.kept.items l.fn.begun.is_long
-    → IsSoFar (form_view l.fn.form) before l.piece l.rest l.fn.begun.number l.begun.kept.items l.begun.is_long l.begun.number (string_bytes l.fn.text) (string_bytes l.text) l.good)
+    → IsSoFar (form_view l.fn.form) l.naming before l.piece l.rest l.fn.begun.number l.begun.kept.items l.begun.is_long l.begun.number (string_bytes l.fn.text) (string_bytes l.text) l.good)
 
 abbrev pub decreases-loop-line : goal.decreases-loop-line
 decreases-loop-line g l = length l.rest

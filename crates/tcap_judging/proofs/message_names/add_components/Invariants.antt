@@ -1,16 +1,16 @@
 use Rattle.std.proofs.Common.{◌≡◌, ◌++◌, map}
 use Rattle.std.specs.List.{flat_map}
 use Rattle.std.specs.Prelude.{string_bytes}
-use Rattle.tcap_component.specs.ComponentReading.{components_of}
 use Rattle.tcap_component.specs.Views.{components_left}
-use Rattle.tcap_judging.specs.MessageNames.{item_words}
+use Rattle.tcap_judging.specs.MessageItems.{items_at, items_in}
+use Rattle.tcap_judging.specs.MessageNames.{components_words}
 use Rattle.tcap_judging.specs.NameViews.{named_view}
 use Rattle.tcap_judging.proofs.message_names.add_components.Given as goal
 
 -- what was added so far, with what is left, is all
 abbrev pub invariant-loop-item : goal.invariant-loop-item
 invariant-loop-item g l =
-    let words = item_words (map named_view l.names) in
+    let words = components_words (map named_view l.names) in
     (goal.iterator-loop-item g).can_next l.item-iterator
     × (goal.iterator-loop-item g).is_finite l.item-iterator
-    × (string_bytes l.text ++ flat_map words (components_left l.item-iterator) ≡ string_bytes l.fn.text ++ flat_map words (components_of l.content))
+    × (string_bytes l.text ++ words (flat_map items_at (components_left l.item-iterator)) ≡ string_bytes l.fn.text ++ words (items_in l.content))
