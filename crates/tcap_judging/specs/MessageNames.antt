@@ -1,6 +1,6 @@
 -- What a message names, in the line of a message: its application context, and of each component the kind, the invoke
 -- identifier and the operation or the error.
-use Rattle.std.specs.Prelude.{ℕ, ℤ, List, [], ◌++◌, codes, Option, Some, None}
+use Rattle.std.specs.Prelude.{ℕ, List, [], ◌++◌, codes, Option, Some, None}
 use Rattle.std.specs.List.{flat_map}
 use Rattle.object_identifiers.specs.Contents.{dotted_at}
 use Rattle.tcap_component.specs.Component.{CodeParts}
