@@ -11,5 +11,6 @@ mod Places
 mod ResyncCuts
 mod ResyncGoing
 mod ResyncSteps
+mod ResyncWithin
 mod StreamCuts
 mod StreamGoing

@@ -1,13 +1,16 @@
 -- Octets at which a good message begins or may begin, as more come.
-use Rattle.std.proofs.Common.{◌≡◌, ◌≤◌, ◌<◌, ◌+◌, ◌-◌, ◌++◌, ◌∙◌, ◌∷◌, ◌&&◌, ℕ, zero, suc, Bool, true, false, List, [], length, map, if◌then◌else◌, take, drop, Option, Some, None, refl, sym, ap, arith}
+use Rattle.std.proofs.Common.{◌≡◌, ◌≤◌, ◌<◌, ◌+◌, ◌-◌, ◌++◌, ◌∙◌, ◌∷◌, ◌&&◌, ℕ, zero, suc, Bool, true, false, List, [], length, map, if◌then◌else◌, take, drop, Option, Some, None, refl, sym, ap, arith, append-nil}
 use Rattle.std.proofs.Math.ListN.{drop_of_length-le}
 use Rattle.std.proofs.Math.Seq.{take-length}
 use Rattle.std.proofs.lemmas.List.{drop-append-le, drop-drop, length-append, length-drop}
 use Rattle.ber_core.proofs.CutGrammar.{after_messages, cut-faulty, cut-longer, cut_takes}
 use Rattle.ber_core.specs.declared.fault.FeedFault.{FeedFault}
-use Rattle.ber_core.specs.Element.{Parts, joined}
-use Rattle.ber_core.specs.Stream.{Cut, cut_into, cut_of}
-use Rattle.tcap_judging.specs.Resync.{first_place, is_message_tag, may_be_good, may_begin, passed_in}
+use Rattle.ber_core.specs.Element.{Parts, depth_limit, joined}
+use Rattle.ber_core.specs.Stream.{Cut, IsMessage, cut_into, cut_of}
+use Rattle.std.specs.List.{AllByRecursion}
+use Rattle.std.specs.Option.{unwrap_or}
+use Rattle.ber_core.proofs.CallerLemmas.{IsElement-longer}
+use Rattle.tcap_judging.specs.Resync.{first_of, first_place, is_message_tag, may_be_good, may_begin, passed_in}
 
 -- ---- what is known of a front stays, as more come
 
@@ -82,20 +85,33 @@ passed-behind ends octets more =
     let q = passed_in ends (drop p octets ++ more) in
     ap (λ n. drop n (octets ++ more)) (passed-longer ends octets more) ∙ sym (drop-drop q p (octets ++ more)) ∙ ap (drop q) (drop-append-le p octets more (place-within (may_begin false) octets))
 
--- ---- what is left of a cut
+-- ---- the first message of a cut
 
-pub rest-within : (s : List ℕ) → length (cut_of s).rest ≤ length s
-rest-within s =
-    let h = cut_takes s in
-    let sizes : length s ≡ length (joined h.elements) + length (cut_of s).rest = ap length h.is_joined ∙ length-append (joined h.elements) (cut_of s).rest in
-    omega (arith, sizes)
+pub first-longer : (s more m : List ℕ) → first_of (cut_of s).messages ≡ Some m → first_of (cut_of (s ++ more)).messages ≡ Some m
+first-longer s more m h = ap (λ (c : Cut). first_of c.messages) (cut-longer s more) ∙ by (cut_of s).messages (cut_of ((cut_of s).rest ++ more)).messages h where
+  by : (ms others : List (List ℕ)) → first_of ms ≡ Some m → first_of (ms ++ others) ≡ Some m
+  by [] others k = absurd cc
+  by (n ∷ ms) others k = k
 
--- without a message, all
-pub rest-all : (s : List ℕ) → (cut_of s).messages ≡ [] → (cut_of s).rest ≡ s
+pub first-sizes : (s m : List ℕ) → first_of (cut_of s).messages ≡ Some m → (0 < length m) × (length m ≤ length s)
+first-sizes s m h = let t = cut_takes s in by t.elements t.each (sym (ap first_of t.are_messages) ∙ h) t.is_joined where
+  by : (es : List Parts) → AllByRecursion IsMessage es → first_of (map (λ (e : Parts). e.whole) es) ≡ Some m → s ≡ joined es ++ (cut_of s).rest → (0 < length m) × (length m ≤ length s)
+  by [] each k is = absurd cc
+  by (e ∷ es) each k is =
+      let same : length e.whole ≡ length m = ap (λ (o : Option (List ℕ)). length (unwrap_or o m)) k in
+      let filled : length {A = ℕ} [] < length e.whole = IsElement-longer depth_limit e [] e.whole each.0.0 (sym (append-nil e.whole)) in
+      let sizes : length s ≡ length (e.whole ++ joined es) + length (cut_of s).rest = ap length is ∙ length-append (e.whole ++ joined es) (cut_of s).rest in
+      (omega (arith, filled, same), omega (arith, same, sizes, length-append e.whole (joined es)))
+
+-- without a message, all is left
+rest-all : (s : List ℕ) → (cut_of s).messages ≡ [] → (cut_of s).rest ≡ s
 rest-all s none = let h = cut_takes s in by h.elements (sym none ∙ h.are_messages) h.is_joined where
   by : (es : List Parts) → [] ≡ map (λ (e : Parts). e.whole) es → s ≡ joined es ++ (cut_of s).rest → (cut_of s).rest ≡ s
   by [] e is = sym is
   by (x ∷ es) e is = absurd cc
+
+pub cut-none : (s : List ℕ) → (cut_of s).messages ≡ [] → cut_of s ≡ cut_into [] s (cut_of s).fault
+cut-none s none = ap (λ (ms : List (List ℕ)). cut_into ms (cut_of s).rest (cut_of s).fault) none ∙ ap (λ (r : List ℕ). cut_into [] r (cut_of s).fault) (rest-all s none)
 
 -- ---- places one after the other
 

@@ -1,43 +1,24 @@
 -- Steps of a stream that goes on behind its faults.
-use Rattle.std.proofs.Common.{◌≡◌, ◌≤◌, ◌<◌, ◌+◌, ◌++◌, ◌∙◌, ◌∷◌, ◌&&◌, ℕ, Bool, true, false, List, [], length, drop, Option, Some, None, refl, sym, ap, subst, arith, append_assoc, append-nil}
+use Rattle.std.proofs.Common.{◌≡◌, ◌≤◌, ◌<◌, ◌+◌, ◌-◌, ◌++◌, ◌∙◌, ◌∷◌, ◌&&◌, ℕ, Bool, true, false, List, [], length, drop, Option, Some, None, refl, sym, ap, subst, arith, append_assoc, append-nil}
 use Rattle.std.proofs.lemmas.Bool.{lt-ltb}
 use Rattle.std.proofs.lemmas.List.{drop-append-le, length-append, take-append-le}
-use Rattle.ber_core.proofs.CutGrammar.{after_messages, cut-faulty, cut-longer}
+use Rattle.ber_core.proofs.CutGrammar.{cut-faulty}
 use Rattle.ber_core.specs.declared.fault.FeedFault.{FeedFault}
 use Rattle.ber_core.specs.declared.fault.FeedFault.TheVariants.{OutOfMemory, Ber, TooLong}
 use Rattle.ber_core.specs.Stream.{Cut, cut_into, cut_of}
 use Rattle.tcap_judging.proofs.EntryLists.{good-alone, good-more, text-alone, text-append}
-use Rattle.tcap_judging.proofs.ResyncCuts.{good-stays, passed-behind, passed-longer, place-again, place-first, place-within}
-use Rattle.tcap_judging.proofs.StreamCuts.{messages-append, octets-append}
-use Rattle.tcap_judging.specs.Entry.{Entry, broken, judged_by, message_entries, octets_in, passed}
+use Rattle.tcap_judging.proofs.ResyncCuts.{first-longer, good-stays, passed-behind, passed-longer, place-again, place-first, place-within}
+use Rattle.tcap_judging.specs.Entry.{Entry, broken, judged_by, message, passed}
 use Rattle.tcap_judging.specs.EntryText.{entries_text, entry_text, is_good_entry}
-use Rattle.tcap_judging.specs.Resync.{Tells, is_found, is_known, judged_of, may_begin, passed_in}
-use Rattle.tcap_judging.specs.Resync.Tells.{stays, faults, searches, finds}
+use Rattle.tcap_judging.specs.Resync.{Tells, first_of, is_found, is_known, judged_of, may_begin, passed_in}
+use Rattle.tcap_judging.specs.Resync.Tells.{stays, faults, reads, doubts, searches, finds}
 use Rattle.tcap_judging.specs.ResyncSteps.{AddsSteps, IsAhead, Leads}
-use Rattle.tcap_judging.specs.StreamSteps.{AddsMessages}
+use Rattle.tcap_words.specs.Show.{show_is_good}
 use Rattle.tcap_judging.specs.Form.{Form}
 use Rattle.tcap_judging.specs.declared.place.Place.{Place}
-use Rattle.tcap_judging.specs.declared.place.Place.TheVariants.{Reading, Searching}
+use Rattle.tcap_judging.specs.declared.place.Place.TheVariants.{Reading, Searching, Within}
 
--- ---- messages before what is told
-
-before : (ends : Bool) (offset : ℕ) (octets rest : List ℕ) (messages : List (List ℕ)) (others : List Entry) → cut_of octets ≡ after_messages messages (cut_of rest)
-    → Tells ends (Reading (offset + octets_in messages)) rest others → Tells ends (Reading offset) octets (message_entries offset messages ++ others)
-before ends offset octets rest messages _ longer (stays _ _ _ ms r f cut known) =
-    subst (Tells ends (Reading offset) octets) (messages-append offset messages ms) (stays ends offset octets (messages ++ ms) r f (longer ∙ ap (after_messages messages) cut) known)
-before ends offset octets rest messages _ longer (faults _ _ _ ms r f es cut known deeper) =
-    let from = offset + octets_in messages in
-    let next : from + octets_in ms ≡ offset + octets_in (messages ++ ms) = let sums = octets-append messages ms in omega (arith, sums) in
-    let list : message_entries offset (messages ++ ms) ++ (broken (offset + octets_in (messages ++ ms)) (judged_of r f) ∷ es) ≡ message_entries offset messages ++ (message_entries from ms ++ (broken (from + octets_in ms) (judged_of r f) ∷ es)) =
-    ap (λ l. l ++ (broken (offset + octets_in (messages ++ ms)) (judged_of r f) ∷ es)) (messages-append offset messages ms)
-    ∙ append_assoc (message_entries offset messages) (message_entries from ms) (broken (offset + octets_in (messages ++ ms)) (judged_of r f) ∷ es)
-    ∙ ap (λ n. message_entries offset messages ++ (message_entries from ms ++ (broken n (judged_of r f) ∷ es))) (sym next) in
-    subst (Tells ends (Reading offset) octets) list (faults ends offset octets (messages ++ ms) r f es (longer ∙ ap (after_messages messages) cut) known (subst (λ n. Tells ends (Searching n 1) (drop 1 r) es) next deeper))
-
-cut-more : (octets rest more : List ℕ) (messages : List (List ℕ)) (fault : Option FeedFault) → cut_of octets ≡ cut_into messages rest fault → cut_of (octets ++ more) ≡ after_messages messages (cut_of (rest ++ more))
-cut-more octets rest more messages fault is = cut-longer octets more ∙ ap (λ (c : Cut). after_messages c.messages (cut_of (c.rest ++ more))) is
-
--- ---- what is known of the octets behind the messages stays known
+-- ---- what is known of octets at which no message begins stays known
 
 record IsStillKnown (ends : Bool) (rest more : List ℕ) (fault : Option FeedFault) : Type 0 where
   later : Option FeedFault
@@ -105,43 +86,74 @@ steps-then form ends place mid last octets rest left old was new good judged ove
   verdict = good-more one.made two.made good judged one.verdict two.verdict;
 }
 
-module _ (form : Form) (ends : Bool) (offset : ℕ) (octets rest : List ℕ) (next : ℕ) (fault : Option FeedFault) (old mid : List ℕ) (good : Bool) (a : AddsMessages form octets offset rest next fault old mid good) where
-  messages-lead : (over : Bool) → (over ≡ true → Tells ends (Reading next) rest []) → Leads ends (Reading offset) octets (message_entries offset a.messages) (Reading next) rest over
-  messages-lead over none = record {
-    goes = λ more later_ends others ahead t. before later_ends offset (octets ++ more) (rest ++ more) a.messages others (cut-more octets rest more a.messages fault a.is_cut) (subst (λ n. Tells later_ends (Reading n) (rest ++ more) others) a.is_next t);
-    over = none;
+-- ---- the first message
+
+module _ (form : Form) (ends : Bool) (offset : ℕ) (octets m : List ℕ) (is_first : first_of (cut_of octets).messages ≡ Some m) (filled : 0 < length m) (within : length m ≤ length octets) where
+  reads-lead : show_is_good m ≡ true → Leads ends (Reading offset) octets (message offset m ∷ []) (Reading (offset + length m)) (drop (length m) octets) false
+  reads-lead good = record {
+    goes = λ more later_ends others ahead t.
+        let behind : drop (length m) (octets ++ more) ≡ drop (length m) octets ++ more = drop-append-le (length m) octets more within in
+        reads later_ends offset (octets ++ more) m others (first-longer octets more m is_first) good (subst (λ w. Tells later_ends (Reading (offset + length m)) w others) (sym behind) t);
+    over = λ o. absurd cc;
   }
 
-  messages-added : (over : Bool) → (over ≡ true → Tells ends (Reading next) rest []) → AddsSteps form ends (Reading offset) octets (Reading next) rest over old mid good
-  messages-added over none = record { made = message_entries offset a.messages; leads = messages-lead over none; added = a.added; verdict = a.verdict }
+  doubts-lead : show_is_good m ≡ false → Leads ends (Reading offset) octets (message offset m ∷ []) (Within offset 1 (length m - 1)) (drop 1 octets) false
+  doubts-lead bad = record {
+    goes = λ more later_ends others ahead t.
+        let behind : drop 1 (octets ++ more) ≡ drop 1 octets ++ more = drop-append-le 1 octets more (omega (arith, filled, within)) in
+        doubts later_ends offset (octets ++ more) m others (first-longer octets more m is_first) bad (subst (λ w. Tells later_ends (Within offset 1 (length m - 1)) w others) (sym behind) t);
+    over = λ o. absurd cc;
+  }
 
+  first-told : (later : Place) (rest left old new : List ℕ) (good : Bool) → left ≡ rest → new ≡ old ++ entry_text form (message offset m) → good ≡ show_is_good m → Leads ends (Reading offset) octets (message offset m ∷ []) later rest false → AddsSteps form ends (Reading offset) octets later left false old new good
+  first-told later rest left old new good is_left added judged leads = subst (λ w. AddsSteps form ends (Reading offset) octets later w false old new good) (sym is_left) (record {
+    made = message offset m ∷ [];
+    leads = leads;
+    added = added ∙ ap (λ t. old ++ t) (sym (text-alone form (message offset m)));
+    verdict = judged ∙ sym (good-alone (message offset m));
+  })
+
+  -- it is good
+  pub first-reads : (left old new : List ℕ) → left ≡ drop (length m) octets → new ≡ old ++ entry_text form (message offset m) → true ≡ show_is_good m → AddsSteps form ends (Reading offset) octets (Reading (offset + length m)) left false old new true
+  first-reads left old new is_left added good = first-told (Reading (offset + length m)) (drop (length m) octets) left old new true is_left added good (reads-lead (sym good))
+
+  -- it isn't
+  pub first-doubts : (left old new : List ℕ) → left ≡ drop 1 octets → new ≡ old ++ entry_text form (message offset m) → false ≡ show_is_good m → AddsSteps form ends (Reading offset) octets (Within offset 1 (length m - 1)) left false old new false
+  first-doubts left old new is_left added bad = first-told (Within offset 1 (length m - 1)) (drop 1 octets) left old new false is_left added bad (doubts-lead (sym bad))
+
+-- ---- no message
+
+module _ (form : Form) (ends : Bool) (offset : ℕ) (octets : List ℕ) (fault : Option FeedFault) (is_cut : cut_of octets ≡ cut_into [] octets fault) where
   -- no more is known
-  pub read-stays : is_known ends rest fault ≡ false → AddsSteps form ends (Reading offset) octets (Reading next) rest true old mid good
-  read-stays unknown = messages-added true (λ o. stays ends next rest [] rest fault a.is_rest unknown)
+  pub none-stays : (old : List ℕ) → is_known ends octets fault ≡ false → AddsSteps form ends (Reading offset) octets (Reading offset) octets true old old true
+  none-stays old unknown = record {
+    made = [];
+    leads = record { goes = λ more later_ends others ahead t. t; over = λ o. stays ends offset octets fault is_cut unknown };
+    added = sym (append-nil old);
+    verdict = refl;
+  }
 
-  fault-leads : is_known ends rest fault ≡ true → Leads ends (Reading next) rest (broken next (judged_of rest fault) ∷ []) (Searching next 1) (drop 1 rest) false
+  fault-leads : is_known ends octets fault ≡ true → Leads ends (Reading offset) octets (broken offset (judged_of octets fault) ∷ []) (Searching offset 1) (drop 1 octets) false
   fault-leads known = record {
     goes = λ more later_ends others ahead t.
-        let still = still-known ends later_ends rest more fault a.is_rest known ahead in
-        let filled = known-filled ends rest fault known in
-        let none : next + octets_in [] ≡ next = omega arith in
-        let behind : drop 1 (rest ++ more) ≡ drop 1 rest ++ more = drop-append-le 1 rest more (omega (arith, filled)) in
-        let deeper : Tells later_ends (Searching (next + octets_in []) 1) (drop 1 (rest ++ more)) others = subst (λ n. Tells later_ends (Searching n 1) (drop 1 (rest ++ more)) others) (sym none) (subst (λ r. Tells later_ends (Searching next 1) r others) (sym behind) t) in
-        let told = faults later_ends next (rest ++ more) [] (rest ++ more) still.later others still.is_cut still.is_known_so deeper in
-        subst (λ e. Tells later_ends (Reading next) (rest ++ more) (e ∷ others)) (ap (λ n. broken n (judged_of (rest ++ more) still.later)) none ∙ ap (broken next) still.is_judged) told;
+        let still = still-known ends later_ends octets more fault is_cut known ahead in
+        let filled = known-filled ends octets fault known in
+        let behind : drop 1 (octets ++ more) ≡ drop 1 octets ++ more = drop-append-le 1 octets more (omega (arith, filled)) in
+        let told = faults later_ends offset (octets ++ more) still.later others still.is_cut still.is_known_so (subst (λ w. Tells later_ends (Searching offset 1) w others) (sym behind) t) in
+        subst (λ e. Tells later_ends (Reading offset) (octets ++ more) (e ∷ others)) (ap (broken offset) still.is_judged) told;
     over = λ o. absurd cc;
   }
 
   -- a fault is told
-  pub read-faults : (new left : List ℕ) (judged : Bool) → left ≡ drop 1 rest → is_known ends rest fault ≡ true → new ≡ mid ++ entry_text form (broken next (judged_of rest fault)) → judged ≡ is_good_entry (broken next (judged_of rest fault)) → AddsSteps form ends (Reading offset) octets (Searching next 1) left false old new (good && judged)
-  read-faults new left judged is_left known added judges =
-      let entry = broken next (judged_of rest fault) in
-      subst (λ w. AddsSteps form ends (Reading offset) octets (Searching next 1) w false old new (good && judged)) (sym is_left) (steps-then form ends (Reading offset) (Reading next) (Searching next 1) octets rest (drop 1 rest) old mid new good judged false (messages-added false (λ o. absurd cc)) (record {
+  pub none-faults : (left old new : List ℕ) (judged : Bool) → left ≡ drop 1 octets → is_known ends octets fault ≡ true → new ≡ old ++ entry_text form (broken offset (judged_of octets fault)) → judged ≡ is_good_entry (broken offset (judged_of octets fault)) → AddsSteps form ends (Reading offset) octets (Searching offset 1) left false old new judged
+  none-faults left old new judged is_left known added judges =
+      let entry = broken offset (judged_of octets fault) in
+      subst (λ w. AddsSteps form ends (Reading offset) octets (Searching offset 1) w false old new judged) (sym is_left) (record {
         made = entry ∷ [];
         leads = fault-leads known;
-        added = added ∙ ap (λ t. mid ++ t) (sym (text-alone form entry));
+        added = added ∙ ap (λ t. old ++ t) (sym (text-alone form entry));
         verdict = judges ∙ sym (good-alone entry);
-      }))
+      })
 
 -- ---- a search
 

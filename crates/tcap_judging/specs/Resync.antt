@@ -1,11 +1,13 @@
--- A stream that goes on behind its faults, at the next octet that begins a good message.
-use Rattle.std.specs.Prelude.{◌≡◌, ◌==◌, ◌||◌, ◌&&◌, ℕ, suc, ◌+◌, Bool, true, false, List, [], ◌∷◌, ◌++◌, length, take, drop, Option, Some, None, nat_lt, if◌then◌else◌}
+-- A stream that goes on behind its faults, also within a faulty message, at the next octet that begins a good message.
+use Rattle.std.specs.Prelude.{◌≡◌, ◌==◌, ◌||◌, ◌&&◌, ◌<◌, ◌≤◌, ℕ, suc, ◌+◌, ◌-◌, Bool, true, false, List, [], ◌∷◌, ◌++◌, length, take, drop, Option, Some, None, nat_lt, not, if◌then◌else◌}
 use Rattle.ber_core.specs.declared.fault.FeedFault.{FeedFault}
 use Rattle.ber_core.specs.Stream.{cut_into, cut_of}
 use Rattle.tcap_words.specs.Show.{show_is_good}
-use Rattle.tcap_judging.specs.Entry.{Entry, broken, judged_by, message_entries, octets_in, passed}
+use Rattle.tcap_judging.specs.Entry.{Entry, broken, judged_by, message, passed}
+use Rattle.tcap_judging.specs.declared.front.Front.{Front}
+use Rattle.tcap_judging.specs.declared.front.Front.TheVariants as front
 use Rattle.tcap_judging.specs.declared.place.Place.{Place}
-use Rattle.tcap_judging.specs.declared.place.Place.TheVariants.{Reading, Searching}
+use Rattle.tcap_judging.specs.declared.place.Place.TheVariants.{Reading, Searching, Within}
 
 -- The tags of the five messages (Q.773, TC message).
 abbrev pub is_message_tag : ℕ → Bool
@@ -24,9 +26,20 @@ may_be_good true [] fault = false
 may_be_good false [] None = true
 may_be_good false [] (Some why) = false
 
+-- The first of some messages, if there is one (own).
+abbrev pub first_of : List (List ℕ) → Option (List ℕ)
+first_of [] = None
+first_of (m ∷ messages) = Some m
+
 -- A good message begins the octets; where more may follow, also: may begin them (own).
 abbrev pub may_begin : (ends : Bool) → List ℕ → Bool
 may_begin ends octets = has_message_tag octets && may_be_good ends (cut_of octets).messages (cut_of octets).fault
+
+-- A good message begins octets with this front; where more may follow, also: may begin them (own).
+abbrev pub begins : (ends : Bool) → Front → Bool
+begins ends front.Good = true
+begins ends front.Short = not ends
+begins ends front.Other = false
 
 -- How many octets stand before the first place at which this holds of what stands from there on, or before the end
 -- (own).
@@ -55,20 +68,29 @@ judged_of rest None = rest
 judged_of rest (Some why) = take (judged_by why) rest
 
 -- A stream tells these entries from a place on, where these octets are all that follow (`ends`), or so many as have
--- come yet. From a place at which a message may begin it tells its messages. Where no more is known behind them, that
--- is all. Else it tells the octets behind them, and searches from their second octet on. A search passes over the
--- octets before the first at which a good message begins, or may begin as more come. There the search is over, these
--- octets are told, and the stream goes on; or more have to come (own).
+-- come yet. From a place at which a message may begin it tells the first message. Where that is good, it goes on behind
+-- it; where it isn't, it searches for a good one from the second octet of the message to its last. Where no message
+-- begins and no more is known, it tells nothing; else it tells the octets there, and searches from the second on. A
+-- search passes over the octets before the first at which a good message begins, or may begin as more come. There the
+-- search is over, these octets are told, and the stream goes on; or more have to come. A search within a faulty message
+-- does the same; but where no such octet is left of the message, the stream goes on behind it, and tells nothing of
+-- passing over (own).
 pub data Tells : (ends : Bool) → Place → List ℕ → List Entry → Type 0 where
-  stays : (ends : Bool) (offset : ℕ) (octets : List ℕ) (messages : List (List ℕ)) (rest : List ℕ)
-      (fault : Option FeedFault) → cut_of octets ≡ cut_into messages rest fault → is_known ends rest fault ≡ false
-      → Tells ends (Reading offset) octets (message_entries offset messages)
-  faults : (ends : Bool) (offset : ℕ) (octets : List ℕ) (messages : List (List ℕ)) (rest : List ℕ)
-      (fault : Option FeedFault) (others : List Entry) → cut_of octets ≡ cut_into messages rest fault
-      → is_known ends rest fault ≡ true
-      → Tells ends (Searching (offset + octets_in messages) 1) (drop 1 rest) others
-      → Tells ends (Reading offset) octets (message_entries offset messages
-      ++ (broken (offset + octets_in messages) (judged_of rest fault) ∷ others))
+  stays : (ends : Bool) (offset : ℕ) (octets : List ℕ) (fault : Option FeedFault)
+      → cut_of octets ≡ cut_into [] octets fault → is_known ends octets fault ≡ false
+      → Tells ends (Reading offset) octets []
+  faults : (ends : Bool) (offset : ℕ) (octets : List ℕ) (fault : Option FeedFault) (others : List Entry)
+      → cut_of octets ≡ cut_into [] octets fault → is_known ends octets fault ≡ true
+      → Tells ends (Searching offset 1) (drop 1 octets) others
+      → Tells ends (Reading offset) octets (broken offset (judged_of octets fault) ∷ others)
+  reads : (ends : Bool) (offset : ℕ) (octets m : List ℕ) (others : List Entry)
+      → first_of (cut_of octets).messages ≡ Some m → show_is_good m ≡ true
+      → Tells ends (Reading (offset + length m)) (drop (length m) octets) others
+      → Tells ends (Reading offset) octets (message offset m ∷ others)
+  doubts : (ends : Bool) (offset : ℕ) (octets m : List ℕ) (others : List Entry)
+      → first_of (cut_of octets).messages ≡ Some m → show_is_good m ≡ false
+      → Tells ends (Within offset 1 (length m - 1)) (drop 1 octets) others
+      → Tells ends (Reading offset) octets (message offset m ∷ others)
   searches : (ends : Bool) (first count : ℕ) (octets : List ℕ) → is_found ends (drop (passed_in ends octets) octets)
       ≡ false
       → Tells ends (Searching first count) octets []
@@ -76,6 +98,17 @@ pub data Tells : (ends : Bool) → Place → List ℕ → List Entry → Type 0 
       → is_found ends (drop (passed_in ends octets) octets) ≡ true
       → Tells ends (Reading (first + (count + passed_in ends octets))) (drop (passed_in ends octets) octets) others
       → Tells ends (Searching first count) octets (passed first (count + passed_in ends octets) ∷ others)
+  searches_within : (ends : Bool) (first count left : ℕ) (octets : List ℕ) → passed_in ends octets < left
+      → is_found ends (drop (passed_in ends octets) octets) ≡ false
+      → Tells ends (Within first count left) octets []
+  finds_within : (ends : Bool) (first count left : ℕ) (octets : List ℕ) (others : List Entry)
+      → passed_in ends octets < left → is_found ends (drop (passed_in ends octets) octets) ≡ true
+      → Tells ends (Reading (first + (count + passed_in ends octets))) (drop (passed_in ends octets) octets) others
+      → Tells ends (Within first count left) octets (passed first (count + passed_in ends octets) ∷ others)
+  finds_none : (ends : Bool) (first count left : ℕ) (octets : List ℕ) (others : List Entry)
+      → left ≤ passed_in ends octets
+      → Tells ends (Reading (first + (count + left))) (drop left octets) others
+      → Tells ends (Within first count left) octets others
 
 -- A stream that goes on behind its faults has these entries: those that it tells while more octets may follow, and
 -- behind them those that it tells besides where it ends (own).

@@ -1,25 +1,27 @@
 -- What a step of a stream that goes on behind its faults comes to.
-use Rattle.std.specs.Prelude.{◌≡◌, ◌==◌, ◌&&◌, not, ℕ, ◌+◌, ◌*◌, Bool, true, false, List, [], ◌++◌, length, Option}
+use Rattle.std.specs.Prelude.{◌≡◌, ◌==◌, ◌&&◌, ◌||◌, not, nat_lt, ℕ, ◌+◌, ◌*◌, Bool, true, false, List, [], ◌++◌, length, Option}
 use Rattle.std.specs.Io.KnownBytes.{Appends}
 use Rattle.tcap_words.specs.Writing.{IsFront}
 use Rattle.tcap_judging.specs.declared.fault.JudgingFault.{JudgingFault}
 use Rattle.tcap_judging.specs.declared.fault.JudgingFault.TheVariants as fault
 use Rattle.tcap_judging.specs.Form.{Form}
 use Rattle.tcap_judging.specs.declared.place.Place.{Place}
-use Rattle.tcap_judging.specs.declared.place.Place.TheVariants.{Reading, Searching}
+use Rattle.tcap_judging.specs.declared.place.Place.TheVariants.{Reading, Searching, Within}
 use Rattle.tcap_judging.specs.Entry.{Entry}
 use Rattle.tcap_judging.specs.EntryText.{entries_text, are_good}
-use Rattle.tcap_judging.specs.Resync.{Tells}
+use Rattle.tcap_judging.specs.Resync.{Tells, passed_in}
 
 -- The offset of the first octet behind a place (own).
 abbrev pub offset_at : Place → ℕ
 offset_at (Reading offset) = offset
 offset_at (Searching first count) = first + count
+offset_at (Within first count left) = first + count
 
 -- How much a place has before it: a search goes before what it finds (own).
 abbrev pub left_at : Place → ℕ → ℕ
 left_at (Reading offset) len = 2 * len
 left_at (Searching first count) len = 1 + 2 * len
+left_at (Within first count left) len = 1 + 2 * len
 
 -- Where a stream ends no more octets come (own).
 abbrev pub IsAhead : (ends : Bool) → List ℕ → Bool → Type 0
@@ -66,10 +68,12 @@ AreStepsUntaken form place octets old new fault.Read = ⊥
 AreStepsUntaken form place octets old new fault.Write = AreStepsCut form place octets old new
 AreStepsUntaken form place octets old new fault.TooLong = ⊥
 
--- A stream that ends has more to tell: octets are left, or a search isn't over (own).
+-- A stream that ends has more to tell: octets are left, or a search isn't over; within a faulty message octets are left
+-- behind it, or a good one begins in it (own).
 abbrev pub has_more : Place → List ℕ → Bool
 has_more (Reading offset) octets = not (length octets == 0)
 has_more (Searching first count) octets = true
+has_more (Within first count left) octets = nat_lt left (length octets) || nat_lt (passed_in true octets) left
 
 -- The text of all that the end of the stream tells was written, and this tells whether the stream is good, where so
 -- much of what stands before is known (own).

@@ -12,6 +12,7 @@ mod command;
 mod cut;
 mod fault;
 mod form;
+mod front;
 mod help_text;
 mod json_names;
 mod json_text;

@@ -1,8 +1,9 @@
 //! A stream that goes on behind its faults.
 
-ghost use Rattle.std.specs.Prelude.{◌≡◌, ◌<◌, ◌+◌, ◌*◌, ◌^◌, ◌++◌, length, true, false, IfOk, OnOk, string_bytes};
+ghost use Rattle.std.specs.Prelude.{◌≡◌, ◌<◌, ◌≤◌, ◌+◌, ◌*◌, ◌^◌, ◌++◌, Bool, Some, [], length, true, false, IfOk, OnOk, string_bytes};
+ghost use Rattle.ber_core.specs.Stream.{cut_into, cut_of};
 ghost use Rattle.tcap_judging.specs.EntryText.{passed_text, plain_passed_text};
-ghost use Rattle.tcap_judging.specs.Resync.{is_known, judged_of};
+ghost use Rattle.tcap_judging.specs.Resync.{first_of, is_known, judged_of};
 ghost use Rattle.tcap_judging.specs.ResyncSteps.{AddsSteps, left_at, offset_at};
 ghost use Rattle.tcap_judging.specs.NameViews.{form_view};
 
@@ -11,8 +12,8 @@ use crate::json_text::add_passed_object;
 use crate::label::Label;
 use crate::message_text::add_message;
 use crate::place::Place;
-use crate::search::{is_found, pass_over};
-use crate::stream_cut::{add_messages, front, judged_by};
+use crate::search::pass_over;
+use crate::stream_cut::{fault_of, first_message, front, judged_by};
 use ber_core::{FeedFault, MAX_LENGTH, OutOfMemory};
 use std::alloc::Allocator;
 use tcap_words::add_decimal;
@@ -76,7 +77,72 @@ fn add_plain_passed<A: Allocator + Copy>(
     Ok(text.push_str(" octets\n")?)
 }
 
-/// Tells the messages that begin the octets, and where more is known of what stands behind them, that.
+/// Tells the first message of the octets, which has this offset.
+fn add_first<'a, A: Allocator + Copy>(
+    form: Form<'_>,
+    text: &mut String<A>,
+    offset: u64,
+    message: &[u8],
+    octets: &'a [u8],
+) -> Result<Stepped<'a>, OutOfMemory>
+    requires room { offset + length octets.now < 2 ^ 64 }
+    requires sizes { (0 < length message.now) × (length message.now ≤ length octets.now) }
+    requires is_first { first_of (cut_of octets.now).messages ≡ Some message.now }
+    ensures adds { (ends : Bool) → IfOk result (λ s. AddsSteps (form_view form.entry) ends (Place.Reading offset)
+        octets.now s.place s.rest.now s.is_over (string_bytes text.old) (string_bytes text.new) s.good) }
+    ensures within { IfOk result (λ s. offset_at s.place + length s.rest.now ≡ offset + length octets.now) }
+    ensures less { IfOk result (λ s. s.is_over ≡ false → left_at s.place (length s.rest.now) < 2 * length octets.now) }
+{
+    let good = add_message(form, text, Label::Offset(offset), message)?;
+    if good {
+        return Ok(Stepped {
+            place: Place::Reading(offset + message.len() as u64),
+            rest: &octets[message.len()..],
+            good: true,
+            is_over: false,
+        });
+    }
+    Ok(Stepped {
+        place: Place::Within(offset, 1, message.len() - 1),
+        rest: &octets[1..],
+        good: false,
+        is_over: false,
+    })
+}
+
+/// Where more is known of octets at which no message begins, tells that.
+fn add_none<'a, A: Allocator + Copy>(
+    form: Form<'_>,
+    text: &mut String<A>,
+    ends: bool,
+    offset: u64,
+    octets: &'a [u8],
+    fault: Option<FeedFault>,
+) -> Result<Stepped<'a>, OutOfMemory>
+    requires { cut_of octets.now ≡ cut_into [] octets.now fault }
+    ensures adds { IfOk result (λ s. AddsSteps (form_view form.entry) ends (Place.Reading offset) octets.now s.place
+        s.rest.now s.is_over (string_bytes text.old) (string_bytes text.new) s.good) }
+    ensures within { IfOk result (λ s. offset_at s.place + length s.rest.now ≡ offset + length octets.now) }
+    ensures less { IfOk result (λ s. s.is_over ≡ false → left_at s.place (length s.rest.now) < 2 * length octets.now) }
+{
+    if !is_known(ends, octets, fault) {
+        return Ok(Stepped {
+            place: Place::Reading(offset),
+            rest: octets,
+            good: true,
+            is_over: true,
+        });
+    }
+    let good = add_message(form, text, Label::Offset(offset), judged_of(octets, fault))?;
+    Ok(Stepped {
+        place: Place::Searching(offset, 1),
+        rest: &octets[1..],
+        good,
+        is_over: false,
+    })
+}
+
+/// Tells the message that begins the octets, or where none does, what is known of them.
 fn read_on<'a, A: Allocator + Copy>(
     form: Form<'_>,
     text: &mut String<A>,
@@ -90,23 +156,10 @@ fn read_on<'a, A: Allocator + Copy>(
     ensures within { IfOk result (λ s. offset_at s.place + length s.rest.now ≡ offset + length octets.now) }
     ensures less { IfOk result (λ s. s.is_over ≡ false → left_at s.place (length s.rest.now) < 2 * length octets.now) }
 {
-    let cut = add_messages(form, text, offset, octets)?;
-    if !is_known(ends, cut.rest, cut.fault) {
-        return Ok(Stepped {
-            place: Place::Reading(cut.offset),
-            rest: cut.rest,
-            good: cut.good,
-            is_over: true,
-        });
+    match first_message(octets) {
+        Ok((message, _)) => add_first(form, text, offset, message, octets),
+        Err(why) => add_none(form, text, ends, offset, octets, fault_of(why, octets)),
     }
-    let label = Label::Offset(cut.offset);
-    let good = add_message(form, text, label, judged_of(cut.rest, cut.fault))?;
-    Ok(Stepped {
-        place: Place::Searching(cut.offset, 1),
-        rest: &cut.rest[1..],
-        good: cut.good & good,
-        is_over: false,
-    })
 }
 
 /// Searches for the next good message, and where the search is over tells how many octets are passed over.
@@ -125,10 +178,10 @@ fn search_on<'a, A: Allocator + Copy>(
     ensures less { IfOk result (λ s. s.is_over ≡ false → left_at s.place (length s.rest.now) < 1 + 2 * length
         octets.now) }
 {
-    let passed = pass_over(ends, octets);
-    let count = count + passed as u64;
-    let rest = &octets[passed..];
-    if !is_found(ends, rest) {
+    let passed = pass_over(ends, octets, octets.len() + 1);
+    let count = count + passed.count as u64;
+    let rest = &octets[passed.count..];
+    if !passed.is_found {
         return Ok(Stepped {
             place: Place::Searching(first, count),
             rest,
@@ -143,6 +196,47 @@ fn search_on<'a, A: Allocator + Copy>(
         good: false,
         is_over: false,
     })
+}
+
+/// Searches for a good message that begins within a faulty one, of which so many octets are left, and where one does,
+/// tells how many octets are passed over.
+fn search_within<'a, A: Allocator + Copy>(
+    form: Form<'_>,
+    text: &mut String<A>,
+    ends: bool,
+    first: u64,
+    count: u64,
+    left: usize,
+    octets: &'a [u8],
+) -> Result<Stepped<'a>, OutOfMemory>
+    requires { first + count + length octets.now < 2 ^ 64 }
+    ensures adds { IfOk result (λ s. AddsSteps (form_view form.entry) ends (Place.Within first count left) octets.now
+        s.place s.rest.now s.is_over (string_bytes text.old) (string_bytes text.new) s.good) }
+    ensures within { IfOk result (λ s. offset_at s.place + length s.rest.now ≡ first + count + length octets.now) }
+    ensures less { IfOk result (λ s. s.is_over ≡ false → left_at s.place (length s.rest.now) < 1 + 2 * length
+        octets.now) }
+{
+    let passed = pass_over(ends, octets, left);
+    let count = count + passed.count as u64;
+    let rest = &octets[passed.count..];
+    let at = Stepped {
+        place: Place::Reading(first + count),
+        rest,
+        good: true,
+        is_over: false,
+    };
+    if passed.count == left {
+        return Ok(at);
+    }
+    if !passed.is_found {
+        return Ok(Stepped {
+            place: Place::Within(first, count, left - passed.count),
+            is_over: true,
+            ..at
+        });
+    }
+    add_passed(form.layout, text, first, count)?;
+    Ok(Stepped { good: false, ..at })
 }
 
 /// The next step from a place.
@@ -163,6 +257,9 @@ fn next_step<'a, A: Allocator + Copy>(
     match place {
         Place::Reading(offset) => read_on(form, text, ends, offset, octets),
         Place::Searching(first, count) => search_on(form, text, ends, first, count, octets),
+        Place::Within(first, count, left) => search_within(
+            form, text, ends, first, count, left, octets,
+        ),
     }
 }
 

@@ -1,7 +1,7 @@
 //! A run over a stream of messages that goes on behind its faults.
 
-ghost use Rattle.std.specs.Prelude.{◌≡◌, ◌<◌, ◌+◌, ◌^◌, ◌++◌, length, true, false, MatchResult, IfOk, OnOk, string_bytes};
-ghost use Rattle.tcap_judging.specs.Resync.{ResyncTells};
+ghost use Rattle.std.specs.Prelude.{◌≡◌, ◌<◌, ◌+◌, ◌^◌, ◌++◌, ◌||◌, nat_lt, length, true, false, MatchResult, IfOk, OnOk, string_bytes};
+ghost use Rattle.tcap_judging.specs.Resync.{ResyncTells, passed_in};
 ghost use Rattle.tcap_judging.specs.ResyncSteps.{AddsSteps, WritesSteps, AreStepsUntaken, WritesEnd, IsEndUntold, has_more, offset_at};
 ghost use Rattle.tcap_judging.specs.Run.{IsJudged, IsUnjudged};
 ghost use Rattle.tcap_judging.specs.NameViews.{form_view};
@@ -11,6 +11,7 @@ use crate::form::Form;
 use crate::line_run::{MOST_READS, PIECE};
 use crate::place::Place;
 use crate::resync::advance;
+use crate::search::pass_over;
 use ber_core::OutOfMemory;
 use std::alloc::Allocator;
 use std::io::{Read, Write};
@@ -72,6 +73,13 @@ fn write_more<A: Allocator + Copy, W: Write>(
     Ok(good)
 }
 
+/// Whether a stream that ends with these octets, of which so many belong to a faulty message, has more to tell.
+fn has_more_within(octets: &[u8], left: usize) -> bool
+    ensures { result ≡ (nat_lt left (length octets.now) || nat_lt (passed_in true octets.now) left) }
+{
+    left < octets.len() || pass_over(true, octets, left).count < left
+}
+
 /// Whether a stream that ends here has more to tell.
 fn has_more<A: Allocator + Copy>(left: &Left<A>) -> bool
     ensures { result ≡ has_more left.now.place left.now.kept.items }
@@ -79,6 +87,7 @@ fn has_more<A: Allocator + Copy>(left: &Left<A>) -> bool
     match left.place {
         Place::Reading(_) => !left.kept.is_empty(),
         Place::Searching(_, _) => true,
+        Place::Within(_, _, few) => has_more_within(left.kept.as_slice(), few),
     }
 }
 
@@ -110,9 +119,11 @@ fn end_more<A: Allocator + Copy, W: Write>(
 /// Judges the messages of the stream that the reader gives, as `judge_stream` does, and goes on behind a fault.
 /// Where no message can begin, or the stream ends within one, a line tells the fault as there. The octets from
 /// there on are passed over up to the next at which a good message begins, or to the end, and a line tells how many
-/// they are. Tells whether every message is good and nothing was passed over. What is written is the same however
-/// the stream is cut into reads. A fault is told once 65,536 octets from its message's first octet on have come, or
-/// the end.
+/// they are. Where a message isn't good, and a good one begins at one of its octets behind the first, the run goes on
+/// at the first such octet, and a line tells how many octets are passed over, from the message's first on; where none
+/// does, the run goes on behind the message. Tells whether every message is good and nothing was passed over. What is
+/// written is the same however the stream is cut into reads. A fault of the stream is told once 65,536 octets from the
+/// first octet of its message on have come, or the end.
 ///
 /// ```rust
 /// let mut stream: &[u8] = &[0x00, 0x01, 0x62, 0x03, 0x48, 0x01, 0x07];

@@ -1,11 +1,19 @@
 //! The next octet of a stream at which a good message begins.
 
-ghost use Rattle.std.specs.Prelude.{◌≡◌, ◌≤◌, true, length};
+ghost use Rattle.std.specs.Prelude.{◌≡◌, ◌≤◌, ◌<◌, Bool, true, length, min, drop};
+ghost use Rattle.tcap_judging.specs.Resync.{begins, has_message_tag, may_be_good, may_begin, passed_in, is_found};
 ghost use Rattle.ber_core.specs.Stream.{cut_of};
-ghost use Rattle.tcap_judging.specs.Resync.{has_message_tag, may_be_good, may_begin, passed_in, is_found};
 
+use crate::front::Front;
 use crate::stream_cut::{fault_of, first_message};
 use tcap_words::verdict_on;
+
+/// Where a search stands: how many octets are passed over, and whether it is over there.
+#[derive(Clone, Copy)]
+pub(crate) struct Passed {
+    pub(crate) count: usize,
+    pub(crate) is_found: bool,
+}
 
 /// Whether the octets begin with the tag of a message.
 fn has_message_tag(octets: &[u8]) -> bool
@@ -17,39 +25,73 @@ fn has_message_tag(octets: &[u8]) -> bool
     }
 }
 
-/// Whether the first message of these octets is good; where more may follow, also whether it may become so.
-fn may_be_good(ends: bool, octets: &[u8]) -> bool
-    ensures { result ≡ may_be_good ends (cut_of octets.now).messages (cut_of octets.now).fault }
+/// What begins octets that have the tag of a message.
+fn what_begins_tagged(octets: &[u8]) -> Front
+    ensures { (ends : Bool) → begins ends result
+        ≡ may_be_good ends (cut_of octets.now).messages (cut_of octets.now).fault }
 {
     match first_message(octets) {
-        Ok((message, _)) => verdict_on(message).is_good(),
-        Err(why) => !ends && fault_of(why, octets).is_none(),
-    }
-}
-
-/// Whether a good message begins the octets; where more may follow, also whether it may begin them.
-fn may_begin(ends: bool, octets: &[u8]) -> bool
-    ensures { result ≡ may_begin ends octets.now }
-{
-    has_message_tag(octets) && may_be_good(ends, octets)
-}
-
-/// Whether a search is over at these octets: a good message begins them, or the stream ends.
-pub(crate) fn is_found(ends: bool, octets: &[u8]) -> bool
-    ensures { result ≡ is_found ends octets.now }
-{
-    ends || may_begin(true, octets)
-}
-
-/// How many octets are passed over.
-pub(crate) fn pass_over(ends: bool, octets: &[u8]) -> usize
-    ensures count { result ≡ passed_in ends octets.now }
-    ensures within { result ≤ length octets.now }
-{
-    for count in 0..octets.len() {
-        if may_begin(ends, &octets[count..]) {
-            return count;
+        Ok((message, _)) => {
+            if verdict_on(message).is_good() {
+                Front::Good
+            } else {
+                Front::Other
+            }
+        }
+        Err(why) => {
+            if fault_of(why, octets).is_none() {
+                Front::Short
+            } else {
+                Front::Other
+            }
         }
     }
-    octets.len()
+}
+
+/// What begins the octets.
+fn what_begins(octets: &[u8]) -> Front
+    ensures { (ends : Bool) → begins ends result ≡ may_begin ends octets.now }
+{
+    if has_message_tag(octets) {
+        what_begins_tagged(octets)
+    } else {
+        Front::Other
+    }
+}
+
+/// Whether a good message begins octets with this front; where more may follow, also whether it may begin them.
+fn begins(ends: bool, front: Front) -> bool
+    ensures { result ≡ begins ends front }
+{
+    match front {
+        Front::Good => true,
+        Front::Short => !ends,
+        Front::Other => false,
+    }
+}
+
+/// How many octets are passed over, at most so many, and where they are fewer whether the search is over there.
+pub(crate) fn pass_over(ends: bool, octets: &[u8], most: usize) -> Passed
+    ensures count { result.count ≡ min most (passed_in ends octets.now) }
+    ensures within { result.count ≤ length octets.now }
+    ensures found { result.count < most → result.is_found ≡ is_found ends (drop result.count octets.now) }
+{
+    let end = if most < octets.len() {
+        most
+    } else {
+        octets.len()
+    };
+    for count in 0..end {
+        let front = what_begins(&octets[count..]);
+        if begins(ends, front) {
+            return Passed {
+                count,
+                is_found: begins(true, front),
+            };
+        }
+    }
+    Passed {
+        count: end,
+        is_found: ends,
+    }
 }

@@ -52,6 +52,64 @@ const ROWS: &[(&[u8], u8, &str)] = &[
         1,
         "0 fault badly formatted place 1 element 0: expected a length of at most 65535, found 0xff\n0 passed over 7 octets\n7 good\n",
     ),
+    // A length that swallows three good messages.
+    (
+        &[
+            0x62, 0x0a, 0x62, 0x03, 0x48, 0x01, 0x07, 0x62, 0x03, 0x48, 0x01, 0x07, 0x62, 0x03,
+            0x48, 0x01, 0x07,
+        ],
+        1,
+        "0 fault incorrect place 2 element 2: expected the originating transaction identifier 0x48, found 0x62\n0 passed over 2 octets\n2 good\n7 good\n12 good\n",
+    ),
+    // A length that is too large by one: the message that it cuts goes on beyond its end.
+    (
+        &[
+            0x62, 0x04, 0x48, 0x01, 0x07, 0x62, 0x03, 0x48, 0x01, 0x08, 0x62, 0x03, 0x48, 0x01,
+            0x09,
+        ],
+        1,
+        "0 fault badly formatted place 6 element 5: expected more octets, found the end\n0 passed over 5 octets\n5 good\n10 good\n",
+    ),
+    // One that is too small by one: within it nothing begins, and behind it is a fault of the stream.
+    (
+        &[
+            0x62, 0x02, 0x48, 0x01, 0x07, 0x62, 0x03, 0x48, 0x01, 0x08, 0x62, 0x03, 0x48, 0x01,
+            0x09,
+        ],
+        1,
+        "0 fault badly formatted place 4 element 2: expected 1 more octet, found the end\n4 fault badly formatted place 11 element 0: expected 89 more octets, found the end\n4 passed over 1 octets\n5 good\n10 good\n",
+    ),
+    // A faulty message in which octets have the tag of a message, but no message begins; a good one follows.
+    (
+        &[
+            0x62, 0x07, 0x48, 0x05, 0x62, 0x03, 0x48, 0x62, 0x01, 0x62, 0x03, 0x48, 0x01, 0x07,
+        ],
+        1,
+        "0 fault incorrect place 4 element 2: expected a transaction identifier of 1 to 4 octets, found 5 octets from 0x62\n9 good\n",
+    ),
+    // Two faulty messages, one behind the other.
+    (
+        &[
+            0x62, 0x03, 0x49, 0x01, 0x07, 0x65, 0x03, 0x49, 0x01, 0x08, 0x62, 0x03, 0x48, 0x01,
+            0x07,
+        ],
+        1,
+        "0 fault incorrect place 2 element 2: expected the originating transaction identifier 0x48, found 0x49\n5 fault incorrect place 2 element 2: expected the originating transaction identifier 0x48, found 0x49\n10 good\n",
+    ),
+    // In a faulty message a faulty one begins, which has a good one inside; the stream ends there.
+    (
+        &[
+            0x62, 0x09, 0x62, 0x07, 0x62, 0x03, 0x48, 0x01, 0x07, 0x05, 0x00,
+        ],
+        1,
+        "0 fault incorrect place 2 element 2: expected the originating transaction identifier 0x48, found 0x62\n0 passed over 4 octets\n4 good\n9 fault unknown type place 0 element 0: expected a message 0x61, 0x62, 0x64, 0x65 or 0x67, found 0x05\n",
+    ),
+    // What may begin in a faulty message isn't whole where the stream ends.
+    (
+        &[0x62, 0x04, 0x49, 0x02, 0x62, 0x09],
+        1,
+        "0 fault incorrect place 2 element 2: expected the originating transaction identifier 0x48, found 0x49\n",
+    ),
 ];
 
 /// Whether a run over single octets writes this, and tells whether the stream is good.

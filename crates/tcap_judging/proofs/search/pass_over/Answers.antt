@@ -8,6 +8,6 @@ loop-count-preserved c =
     let n = c.loop-count.count in
     let octets = c.args.octets.now in
     let low : n < length octets = search rules in
-    let bad : may_begin c.args.ends (drop n octets) ≡ false = ap (may_begin c.args.ends) (sym (rest-from octets n)) ∙ sym c.may_begin.ensures ∙ c.if-may_begin.false in
+    let bad : may_begin c.args.ends (drop n octets) ≡ false = ap (may_begin c.args.ends) (sym (rest-from octets n)) ∙ sym (c.what_begins-front.ensures c.args.ends) ∙ sym c.begins.ensures ∙ c.if-begins.false in
     let next : passed_in c.args.ends (drop n octets) ≡ 1 + passed_in c.args.ends (drop (n + 1) octets) = place-next (may_begin c.args.ends) octets n low bad in
     omega (arith, c.loop-count.invariant, next)
