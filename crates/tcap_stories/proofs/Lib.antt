@@ -1,5 +1,7 @@
 mod AloneForms
+mod BadLineLemmas
 mod ComparingLemmas
+mod ExpectedLemmas
 mod PartLemmas
 mod PieceLemmas
 mod PrintedLemmas

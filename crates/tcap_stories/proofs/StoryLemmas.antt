@@ -3,13 +3,17 @@ use Rattle.std.proofs.Common.{◌≡◌, ◌+◌, ◌&&◌, ℕ, Bool, true, fal
 use Rattle.tcap_play.specs.EnginesView.{StandAt}
 use Rattle.tcap_play.specs.PlayViews.{Does}
 use Rattle.tcap_play.specs.declared.by_line.Engines.{Engines}
-use Rattle.tcap_play.specs.Play.{Played, Printed, Stepped, behind, step_by}
+use Rattle.tcap_play.specs.Opening as model
+use Rattle.tcap_play.specs.OpeningView.{opening_view}
+use Rattle.tcap_play.specs.Pieces.{pieces_left}
+use Rattle.tcap_play.specs.Play.{Played, Printed, Stepped, behind, not_begun, step_by}
+use Rattle.tcap_play.specs.declared.opening.Opening.{Opening}
 use Rattle.tcap_stories.specs.BadLine.{bad_line}
 use Rattle.tcap_stories.specs.Comparing.{Expectation, and_then, compared}
 use Rattle.tcap_stories.specs.Outputs.{numbered, outputs_in}
-use Rattle.tcap_stories.specs.Story.{expectations_from, expectations_with, told_from, told_line, told_of, told_step}
+use Rattle.tcap_stories.specs.Story.{expectations_from, expectations_with, plays_any, told_from, told_if_played, told_line, told_of, told_step, told_whole}
 use Rattle.tcap_stories.specs.StoryLine.{StoryLine, kind_of, wanted_by}
-use Rattle.tcap_stories.specs.Views.{Adds, Expects, PlaysAs, Tells, TellsAs, going, so_far, told_on}
+use Rattle.tcap_stories.specs.Views.{Adds, Expects, PlaysAs, Tells, TellsAs, going, so_far, told_at, told_on}
 use Rattle.tcap_stories.specs.declared.comparing.Comparing.{Comparing}
 use Rattle.tcap_stories.specs.declared.story.Told.{Told}
 use Rattle.tcap_stories.proofs.PrintedLemmas.{added, and_assoc, and_silent, good_false, good_true}
@@ -187,3 +191,15 @@ module _ {A : Type 0} where
       → start ≡ told_on text good c number q ahead → ahead ≡ [] → Adds (going c []) now text after → start ≡ so_far after (good && now)
   all_told start text after good now c number q ahead is none ends =
       is ∙ (ap (λ ls. told_on text good c number q ls) none ∙ ended text after good now c number q ends)
+
+-- what is told of the lines, and behind it whether one is played, is all
+pub whole_told : (opening : Opening) (o : model.Opening) (start middle text : List ℕ) (good played : Bool) → opening_view opening ≡ o → start ≡ []
+    → and_then (so_far start true) (told_at opening (not_begun opening.idle_ms)) ≡ so_far middle good
+    → Adds (told_if_played (plays_any (pieces_left 10 opening.rest))) played middle text
+    → told_whole o ≡ so_far text (good && played)
+whole_told opening o start middle text good played is none tells adds =
+    let told = told_at opening (not_begun opening.idle_ms) in
+    let last = told_if_played (plays_any (pieces_left 10 opening.rest)) in
+    ap told_whole (sym is)
+    ∙ (ap (λ s. and_then (and_then (so_far s true) told) last) (sym none)
+    ∙ (ap (λ t. and_then t last) tells ∙ added last middle text good played adds))

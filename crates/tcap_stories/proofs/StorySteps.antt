@@ -9,9 +9,9 @@ use Rattle.tcap_play.specs.ScriptLine.{ScriptLine, abort_request_of, asked_on, b
 use Rattle.tcap_play.specs.ScriptWords.{MessageName, dialogue_of, engine_of, idle_limit_of, milliseconds_of, name_of, named_address, octets_of}
 use Rattle.tcap_play.specs.Sides.{Engine}
 use Rattle.tcap_lines.specs.declared.fault.LineFault.{LineFault}
-use Rattle.tcap_lines.specs.LineFaults.{IsFirstFault, IsGoodLine}
+use Rattle.tcap_lines.specs.LineFaults.{IsFirstFault}
 use Rattle.tcap_lines.specs.Reading.{first_fault}
-use Rattle.tcap_lines.proofs.CallerLemmas.{first_told, none_good, some_first}
+use Rattle.tcap_lines.proofs.CallerLemmas.{first_told, some_first}
 use Rattle.tcap_stories.specs.BadLine.{IsUnfit}
 use Rattle.tcap_stories.specs.StoryTable.{story_table}
 use Rattle.tcap_stories.proofs.AloneForms.{stands_in_story}
@@ -93,7 +93,7 @@ call_reads words (Some (ScriptLine.again message)) calls = absurd calls
 call_reads words (Some (ScriptLine.lose message)) calls = absurd calls
 call_reads words (Some (ScriptLine.advance now)) calls = absurd calls
 
-same_octets : (xs ys : List ℕ) → bytes_eq xs ys ≡ true → xs ≡ ys
+pub same_octets : (xs ys : List ℕ) → bytes_eq xs ys ≡ true → xs ≡ ys
 same_octets xs ys e = (bytes_eq-Decides xs ys).0 e
 
 named : (first name word : List ℕ) (line : MessageName → ScriptLine) → first ≡ name
@@ -171,7 +171,7 @@ storied p (first ∷ word ∷ []) is =
 storied p (first ∷ second ∷ third ∷ words) is = absurd cc
 
 -- what step is made for words
-abbrev stepped : Played → List (List ℕ) → Option Stepped
+abbrev pub stepped : Played → List (List ℕ) → Option Stepped
 stepped p words = option_and_then (step p) (line_of words)
 
 -- a line that makes no step, and of which no word is wrong
@@ -209,8 +209,8 @@ is_none : (found : Option LineFault) → is_some found ≡ false → found ≡ N
 is_none None e = refl
 is_none (Some found) e = absurd cc
 
-formed : (words : List (List ℕ)) → (is_some (line_of words) || in_story words) ≡ true → IsGoodLine story_table words
-formed words is = none_good story_table words (is_none (first_fault story_table words) (story_told words ∙ ap not is))
+formed : (words : List (List ℕ)) → (is_some (line_of words) || in_story words) ≡ true → first_fault story_table words ≡ None
+formed words is = is_none (first_fault story_table words) (story_told words ∙ ap not is)
 
 late_line : (word : List ℕ) → line_of (codes "idle" ∷ word ∷ []) ≡ None
 late_line word = go (bytes_eq word (codes "new")) where
@@ -223,7 +223,7 @@ or_true true = refl
 or_true false = refl
 
 -- these lines have a form, and make no step
-pub unfit : (p : Played) (words : List (List ℕ)) → IsUnfit p words → (stepped p words ≡ None) × IsGoodLine story_table words
+pub unfit : (p : Played) (words : List (List ℕ)) → IsUnfit p words → (stepped p words ≡ None) × (first_fault story_table words ≡ None)
 unfit p words (IsUnfit.undelivered q word name is none) = (rw (is, none) refl, formed (codes "deliver" ∷ word ∷ []) (rw is refl))
 unfit p words (IsUnfit.unrepeated q word name is none) = (rw (is, none) refl, formed (codes "again" ∷ word ∷ []) (rw is refl))
 unfit p words (IsUnfit.unlost q word name is none) = (rw (is, none) refl, formed (codes "lose" ∷ word ∷ []) (rw is refl))

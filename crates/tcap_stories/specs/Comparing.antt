@@ -40,7 +40,8 @@ front_words number = codes "line " ++ decimal number
 -- That the line of this number has failed (own).
 abbrev pub failed_line : ℕ → Option (List ℕ) → Option (List ℕ) → List ℕ
 failed_line number wanted found =
-    front_words number ++ (output_words (codes " failed: expected ") wanted ++ (output_words (codes ", found ") found ++ codes "\n"))
+    front_words number ++ (output_words (codes " failed: expected ") wanted
+    ++ (output_words (codes ", found ") found ++ codes "\n"))
 
 -- What is told of what is expected and what came (own).
 abbrev pub held : ℕ → Option (List ℕ) → Option (List ℕ) → Printed
@@ -56,8 +57,8 @@ side_by_side number [] (e ∷ es) = and_then (held e.line e.wanted None) (side_b
 side_by_side number (output ∷ outputs) (e ∷ es) =
     and_then (held e.line e.wanted (Some output)) (side_by_side number outputs es)
 
--- What is told of the outputs of the line of this number. Where nothing is expected of it, they may be any but refusals:
--- a refusal that nothing names has failed (own).
+-- What is told of the outputs of the line of this number. Where nothing is expected of it, they may be any but
+-- refusals: a refusal that nothing names has failed (own).
 abbrev pub compared : ℕ → List (List ℕ) → List Expectation → Printed
 compared number outputs [] = side_by_side number (filter is_refusal outputs) []
 compared number outputs (e ∷ es) = side_by_side number outputs (e ∷ es)

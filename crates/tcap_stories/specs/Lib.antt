@@ -1,5 +1,6 @@
 pub mod BadLine
 pub mod Comparing
+pub mod ExpectedText
 pub mod Outputs
 pub mod Story
 pub mod StoryLine

@@ -34,4 +34,5 @@ outputs_in text = map told (ended_lines text)
 -- Outputs with the number of the line that they come from (own).
 abbrev pub numbered : ℕ → List (List ℕ) → List ℕ
 numbered number [] = []
-numbered number (output ∷ outputs) = decimal number ++ (codes " " ++ (output ++ (codes "\n" ++ numbered number outputs)))
+numbered number (output ∷ outputs) =
+    decimal number ++ (codes " " ++ (output ++ (codes "\n" ++ numbered number outputs)))

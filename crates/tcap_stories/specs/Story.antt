@@ -1,5 +1,6 @@
 -- What is told of a story: a play, and what is expected of it.
-use Rattle.std.specs.Prelude.{ℕ, ◌+◌, false, List, [], ◌∷◌, Option, Some, None}
+use Rattle.std.specs.Prelude.{ℕ, ◌+◌, Bool, true, false, List, [], ◌∷◌, codes, Option, Some, None}
+use Rattle.std.specs.List.{list_any}
 use Rattle.tcap_play.specs.Opening.{Opening, opening_of}
 use Rattle.tcap_play.specs.Play.{Played, Printed, Stepped, behind, not_begun, step_by}
 use Rattle.tcap_stories.specs.BadLine.{bad_line}
@@ -41,7 +42,8 @@ unfoldable pub told_from : ℕ → Played → List (List ℕ) → Printed
 told_from number p [] = silent
 told_from number p (line ∷ lines) =
     told_line (kind_of line) (told_from (number + 1) p lines)
-    (told_step number line (expectations_from (number + 1) lines) (λ q. told_from (number + 1) q lines) (step_by p line))
+    (told_step number line (expectations_from (number + 1) lines)
+    (λ q. told_from (number + 1) q lines) (step_by p line))
 
 -- What is told of a story that opens so: before its first line of a play nothing comes (own).
 abbrev pub told_behind : Opening → Printed
@@ -49,6 +51,26 @@ told_behind opening =
     and_then (compared 0 [] (expectations_from (opening.passed + 1) opening.lines))
     (told_from (opening.passed + 1) (not_begun opening.idle_ms) opening.lines)
 
+-- Whether a line is one of a play, or bad (own).
+abbrev pub is_played : StoryLine → Bool
+is_played StoryLine.skipped = false
+is_played (StoryLine.expects text) = false
+is_played StoryLine.plays = true
+
+-- Whether one of these lines is (own).
+abbrev pub plays_any : List (List ℕ) → Bool
+plays_any lines = list_any (λ line. is_played (kind_of line)) lines
+
+-- What is told besides of a story, by whether a line of it is played: one that plays nothing shows nothing, and has
+-- failed (own).
+abbrev pub told_if_played : Bool → Printed
+told_if_played true = silent
+told_if_played false = record { text = codes "no line to play\n"; good = false }
+
+-- What is told of a story that opens so, and whether it has passed (own).
+abbrev pub told_whole : Opening → Printed
+told_whole opening = and_then (told_behind opening) (told_if_played (plays_any opening.lines))
+
 -- What is told of a story, and whether it has passed (own).
 abbrev pub told_story : List ℕ → Printed
-told_story script = told_behind (opening_of script)
+told_story script = told_whole (opening_of script)

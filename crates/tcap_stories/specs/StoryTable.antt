@@ -41,11 +41,15 @@ portion = dialogue ∷ expected.Context ∷ expected.Octets ∷ []
 abbrev pub result : List Expected
 result = dialogue ∷ identifier ∷ optional_code ∷ expected.OctetsBehindCode ∷ []
 
+-- The words of an invoke (own).
+abbrev pub invoke : List Expected
+invoke = dialogue ∷ identifier ∷ expected.Number 1 4 ∷ code ∷ milliseconds ∷ optional_identifier ∷ expected.Octets ∷ []
+
 -- The forms behind a side (docs/FORMATS.md, play: the script).
 abbrev pub forms_on_side : List FormWords
 forms_on_side =
     form (codes "new") []
-    ∷ form (codes "invoke") (dialogue ∷ identifier ∷ expected.Number 1 4 ∷ code ∷ milliseconds ∷ optional_identifier ∷ expected.Octets ∷ [])
+    ∷ form (codes "invoke") invoke
     ∷ form (codes "last") result
     ∷ form (codes "more") result
     ∷ form (codes "error") (dialogue ∷ identifier ∷ code ∷ expected.Octets ∷ [])

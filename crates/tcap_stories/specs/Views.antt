@@ -59,25 +59,33 @@ left_over expected number output = if expected || is_refusal output then held nu
 abbrev pub going : {A : Type 0} → Comparing A → List Expectation → Printed
 going comparing expectations = still_told comparing.expected comparing.line (left_of comparing) expectations
 
+-- From here on that is told which the outputs of the line of this number are to tell, whatever is expected of it (own).
+abbrev pub Compares : {A : Type 0} → ℕ → List (List ℕ) → Comparing A → Type 0
+Compares number outputs next =
+    (expectations : List Expectation) → going next expectations ≡ compared number outputs expectations
+
 -- What a line expects was held against the next output, and told (own).
 abbrev pub Expects : {A : Type 0} → Expectation → Bool → (old new : Comparing A) → (before after : List ℕ) → Type 0
 Expects expectation good old new before after =
     (told : Printed) × Adds told good before after
     × ((later : List Expectation) → going old (expectation ∷ later) ≡ and_then told (going new later))
 
--- A line of a play at a play, whose number this is: its outputs are told, and compared with what is expected of them from here
--- on; or it is bad, which is told (own).
-abbrev pub PlaysAs : {A : Type 0} → ℕ → List ℕ → Option Stepped → Option (Comparing A) → Engines A → (before after : List ℕ) → Type 0
+-- A line of a play at a play, whose number this is: its outputs are told, and compared with what is expected of them
+-- from here on; or it is bad, which is told (own).
+abbrev pub PlaysAs : {A : Type 0} → ℕ → List ℕ → Option Stepped → Option (Comparing A) → Engines A
+    → (before after : List ℕ) → Type 0
 PlaysAs number line None None engines before after = after ≡ before ++ bad_line number line
 PlaysAs number line None (Some next) engines before after = ⊥
 PlaysAs number line (Some stepped) None engines before after = ⊥
 PlaysAs number line (Some stepped) (Some next) engines before after =
     StandAt stepped.after engines × (after ≡ before ++ numbered number (outputs_in stepped.text))
-    × ((expectations : List Expectation) → going next expectations ≡ compared number (outputs_in stepped.text) expectations)
+    × Compares number (outputs_in stepped.text) next
 
 -- The same at each play at which the engines stood (own).
-abbrev pub PlaysOn : {A : Type 0} → ℕ → List ℕ → Option (Comparing A) → (old new : Engines A) → (before after : List ℕ) → Type 0
-PlaysOn number line next old new before after = (p : Played) → StandAt p old → PlaysAs number line (step_by p line) next new before after
+abbrev pub PlaysOn : {A : Type 0} → ℕ → List ℕ → Option (Comparing A) → (old new : Engines A)
+    → (before after : List ℕ) → Type 0
+PlaysOn number line next old new before after =
+    (p : Played) → StandAt p old → PlaysAs number line (step_by p line) next new before after
 
 -- What is told from the first line of a play on, at this play (own).
 abbrev pub told_at : Opening → Played → Printed
@@ -93,7 +101,8 @@ told_on text good comparing number p lines =
 
 -- Behind a line that ends the story it has failed; behind another it goes on at a play, with this verdict on the line
 -- (own).
-abbrev pub TellsAs : {A : Type 0} → ℕ → List ℕ → Played → (good ends : Bool) → (comparing next : Comparing A) → Engines A → (before after : List ℕ) → Type 0
+abbrev pub TellsAs : {A : Type 0} → ℕ → List ℕ → Played → (good ends : Bool) → (comparing next : Comparing A)
+    → Engines A → (before after : List ℕ) → Type 0
 TellsAs number line p good true comparing next engines before after =
     (so : Bool) (lines : List (List ℕ)) → told_on before so comparing number p (line ∷ lines) ≡ so_far after false
 TellsAs number line p good false comparing next engines before after =
@@ -101,7 +110,8 @@ TellsAs number line p good false comparing next engines before after =
     → told_on before so comparing number p (line ∷ lines) ≡ told_on after (so && good) next (number + 1) q lines)
 
 -- What a line tells was added, at each play at which the engines stood (own).
-abbrev pub Tells : {A : Type 0} → ℕ → List ℕ → Told → (comparing next : Comparing A) → (old new : Engines A) → (before after : List ℕ) → Type 0
+abbrev pub Tells : {A : Type 0} → ℕ → List ℕ → Told → (comparing next : Comparing A) → (old new : Engines A)
+    → (before after : List ℕ) → Type 0
 Tells number line told comparing next old new before after =
     (p : Played) → StandAt p old → TellsAs number line p told.good told.ends comparing next new before after
 

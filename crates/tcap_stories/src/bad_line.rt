@@ -2,13 +2,15 @@
 
 ghost use Rattle.std.specs.Prelude.{◌≡◌, ◌++◌, OnOk, string_bytes};
 ghost use Rattle.tcap_play.specs.Pieces.{words_of};
-ghost use Rattle.tcap_stories.specs.BadLine.{bad_line, first_of, reason_of, unfit_words};
+ghost use Rattle.tcap_stories.specs.BadLine.{bad_line, first_of, reason_of, unfit_words, wrong_in};
 
+use crate::expected_text::text_fault;
+use crate::story_line::expectation;
 use crate::table::story_table;
 use crate::text::{add_number, is};
 use ber_core::OutOfMemory;
 use std::alloc::Allocator;
-use tcap_lines::{add_line_fault, line_fault};
+use tcap_lines::{LineFault, add_line_fault, line_fault};
 use tcap_play::first_piece;
 
 /// Why a line that has a form is bad, by its first word.
@@ -28,13 +30,22 @@ fn unfit_words(name: &[u8]) -> &'static str
     }
 }
 
+/// What is wrong first with the words of a line, if anything.
+fn wrong_in(line: &[u8]) -> Option<LineFault>
+    ensures { result ≡ wrong_in line.now }
+{
+    match expectation(line) {
+        Some(text) => text_fault(text),
+        None => line_fault(&story_table(), line),
+    }
+}
+
 /// Adds why a line is bad.
 fn add_reason<A: Allocator + Copy>(text: &mut String<A>, line: &[u8]) -> Result<(), OutOfMemory>
     ensures { OnOk result (string_bytes text.new ≡ string_bytes text.old ++ reason_of line.now) }
 {
-    let table = story_table();
-    match line_fault(&table, line) {
-        Some(fault) => add_line_fault(text, &table, fault),
+    match wrong_in(line) {
+        Some(fault) => add_line_fault(text, &story_table(), fault),
         None => {
             let (name, _) = first_piece(line, b' ');
             Ok(text.push_str(unfit_words(name))?)

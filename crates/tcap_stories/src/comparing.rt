@@ -1,8 +1,8 @@
 //! The outputs of a line beside what is expected of it.
 
-ghost use Rattle.std.specs.Prelude.{◌≡◌, ◌++◌, [], List, drop, option_copied, slice_get, IfOk, OnOk};
-ghost use Rattle.tcap_stories.specs.Comparing.{Expectation, agrees, compared, failed_line, front_words, held, or_nothing, output_words};
-ghost use Rattle.tcap_stories.specs.Views.{Adds, Expects, going, left_over, still_told, texts_of};
+ghost use Rattle.std.specs.Prelude.{◌≡◌, ◌++◌, [], drop, option_copied, slice_get, IfOk, OnOk};
+ghost use Rattle.tcap_stories.specs.Comparing.{agrees, failed_line, front_words, held, or_nothing, output_words};
+ghost use Rattle.tcap_stories.specs.Views.{Adds, Compares, Expects, going, left_over, still_told, texts_of};
 
 use crate::outputs::is_refusal;
 use crate::text::add_number;
@@ -79,15 +79,16 @@ fn add_failure<A: Allocator>(
     Ok(text.extend_from_slice(b"\n")?)
 }
 
-/// Holds what came against what is expected by the line of this number, and tells whether it agrees; where it doesn't, that is
-/// added.
+/// Holds what came against what is expected by the line of this number, and tells whether it agrees; where it
+/// doesn't, that is added.
 fn hold<A: Allocator>(
     text: &mut Vec<u8, A>,
     line: u64,
     wanted: Option<&[u8]>,
     found: Option<&[u8]>,
 ) -> Result<bool, OutOfMemory>
-    ensures { IfOk result (λ good. Adds (held line (option_copied wanted.entry) (option_copied found.entry)) good text.old.items text.new.items) }
+    ensures { IfOk result (λ good. Adds (held line (option_copied wanted.entry) (option_copied found.entry))
+        good text.old.items text.new.items) }
 {
     if agrees(wanted, found) {
         return Ok(true);
@@ -104,7 +105,9 @@ fn hold_at<A: Allocator>(
     outputs: &[Vec<u8, A>],
     place: usize,
 ) -> Result<bool, OutOfMemory>
-    ensures { IfOk result (λ good. Adds (held line (option_copied wanted.entry) (slice_get (texts_of outputs.now) place)) good text.old.items text.new.items) }
+    ensures { IfOk result (λ good. Adds
+        (held line (option_copied wanted.entry) (slice_get (texts_of outputs.now) place))
+        good text.old.items text.new.items) }
 {
     if place < outputs.len() {
         hold(text, line, wanted, Some(&outputs[place]))
@@ -137,7 +140,8 @@ fn hold_rest<A: Allocator>(
     outputs: &[Vec<u8, A>],
     place: usize,
 ) -> Result<bool, OutOfMemory>
-    ensures { IfOk result (λ good. Adds (still_told expected line (drop place (texts_of outputs.now)) []) good text.old.items text.new.items) }
+    ensures { IfOk result (λ good. Adds (still_told expected line (drop place (texts_of outputs.now)) [])
+        good text.old.items text.new.items) }
 {
     let mut good = true;
     let mut place = place;
@@ -151,7 +155,7 @@ fn hold_rest<A: Allocator>(
 impl<A: Allocator + Copy> Comparing<A> {
     /// The outputs of a line, before anything is expected of it.
     pub(crate) fn new(line: u64, outputs: Vec<Vec<u8, A>, A>) -> Comparing<A>
-        ensures { (expectations : List Expectation) → going result expectations ≡ compared line (texts_of outputs.items) expectations }
+        ensures { Compares line (texts_of outputs.items) result }
     {
         Comparing {
             line,
@@ -168,7 +172,8 @@ impl<A: Allocator + Copy> Comparing<A> {
         line: u64,
         wanted: Option<&[u8]>,
     ) -> Result<bool, OutOfMemory>
-        ensures { IfOk result (λ good. Expects (record { line = line; wanted = option_copied wanted.entry }) good self.old self.new text.old.items text.new.items) }
+        ensures { IfOk result (λ good. Expects (record { line = line; wanted = option_copied wanted.entry }) good
+            self.old self.new text.old.items text.new.items) }
     {
         let good = hold_at(text, line, wanted, &self.outputs, self.compared)?;
         self.expected = true;

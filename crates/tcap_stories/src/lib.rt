@@ -6,6 +6,7 @@
 
 mod bad_line;
 mod comparing;
+mod expected_text;
 pub mod laws;
 mod outputs;
 mod story;

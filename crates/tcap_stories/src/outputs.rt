@@ -57,7 +57,8 @@ fn keep_output<'t, A: Allocator + Copy>(
     outputs: &mut Vec<Vec<u8, A>, A>,
     lines: &'t [u8],
 ) -> Result<Option<&'t [u8]>, OutOfMemory>
-    ensures kept { IfOk result (λ rest. texts_of outputs.new.items ++ outputs_left rest ≡ texts_of outputs.old.items ++ outputs_in lines.entry.now) }
+    ensures kept { IfOk result (λ rest. texts_of outputs.new.items ++ outputs_left rest
+        ≡ texts_of outputs.old.items ++ outputs_in lines.entry.now) }
     ensures shorter { IfOk result (λ rest. IfSome rest (λ more. length more.now < length lines.entry.now)) }
 {
     let (output, more) = first_piece(lines, b'\n');

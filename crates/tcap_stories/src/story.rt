@@ -1,11 +1,10 @@
 //! What is told of a story.
 
-ghost use Rattle.std.specs.Prelude.{◌≡◌, ◌≤◌, ◌+◌, ◌++◌, List, false, IfOk, OnOk};
-ghost use Rattle.tcap_play.specs.Pieces.{left};
-ghost use Rattle.tcap_stories.specs.Comparing.{Expectation, compared};
+ghost use Rattle.std.specs.Prelude.{◌≡◌, ◌≤◌, ◌+◌, ◌++◌, false, IfOk, OnOk};
+ghost use Rattle.tcap_play.specs.Pieces.{left, pieces_left};
 ghost use Rattle.tcap_stories.specs.Outputs.{numbered, outputs_in};
-ghost use Rattle.tcap_stories.specs.Story.{told_story};
-ghost use Rattle.tcap_stories.specs.Views.{Expects, PlaysOn, going, Tells, TellsAll};
+ghost use Rattle.tcap_stories.specs.Story.{plays_any, told_if_played, told_story};
+ghost use Rattle.tcap_stories.specs.Views.{Adds, Compares, Expects, PlaysOn, Tells, TellsAll};
 ghost use Rattle.tcap_stories.specs.StoryLine.{kind_of, wanted_by, StoryLine as Kind};
 
 use crate::bad_line::add_bad_line;
@@ -32,8 +31,7 @@ fn tell_outputs<A: Allocator + Copy>(
     text: &mut Vec<u8, A>,
 ) -> Result<Comparing<A>, OutOfMemory>
     ensures told { OnOk result (text.new.items ≡ text.old.items ++ numbered number (outputs_in printed.now)) }
-    ensures left { IfOk result (λ next. (expectations : List Expectation)
-        → going next expectations ≡ compared number (outputs_in printed.now) expectations) }
+    ensures left { IfOk result (λ next. Compares number (outputs_in printed.now) next) }
 {
     let outputs = outputs_in(alloc, printed)?;
     add_numbered(text, number, &outputs)?;
@@ -153,9 +151,40 @@ fn tell_lines<A: Allocator + Copy>(
     Ok(good)
 }
 
+/// Whether one of the lines that are left is one of a play, or bad.
+fn plays_any(rest: Option<&[u8]>) -> bool
+    ensures { result ≡ plays_any (pieces_left 10 rest.entry) }
+{
+    let mut rest = rest;
+    while let Some(lines) = rest {
+        let (line, more) = first_piece(lines, b'\n');
+        if matches!(kind_of(line), StoryLine::Plays) {
+            return true;
+        }
+        rest = more;
+    }
+    false
+}
+
+/// Tells that none of these lines is played, where none is, and whether one is.
+fn tell_if_played<A: Allocator>(
+    text: &mut Vec<u8, A>,
+    rest: Option<&[u8]>,
+) -> Result<bool, OutOfMemory>
+    ensures { IfOk result (λ good. Adds (told_if_played (plays_any (pieces_left 10 rest.entry))) good
+        text.old.items text.new.items) }
+{
+    if plays_any(rest) {
+        return Ok(true);
+    }
+    text.extend_from_slice(b"no line to play\n")?;
+    Ok(false)
+}
+
 /// What is told of a story, and whether it has passed: the lines of a play are played, and their outputs told with
 /// the numbers of the lines that they come from; outputs that aren't those that `expect` lines say are told too, and
-/// refusals that none names, and a bad line with why it is bad, which ends the story.
+/// refusals that none names, and a bad line with why it is bad, which ends the story; and where no line is played,
+/// that.
 ///
 /// ```rust
 /// let story = story_text(rt.alloc(), b"A new\nexpect A new 2\n")?;
@@ -171,5 +200,9 @@ pub fn story_text<A: Allocator + Copy>(alloc: A, script: &[u8]) -> Result<Shown<
     let mut engines = Engines::new(alloc, opening.idle_ms);
     let mut text = Vec::new(alloc);
     let good = tell_lines(alloc, opening, &mut engines, &mut text)?;
-    Ok(Shown { text, good })
+    let played = tell_if_played(&mut text, opening.rest)?;
+    Ok(Shown {
+        text,
+        good: good & played,
+    })
 }

@@ -1,9 +1,11 @@
 //! The lines of a story.
 
-ghost use Rattle.std.specs.Prelude.{◌≡◌, option_copied};
-ghost use Rattle.tcap_stories.specs.StoryLine.{kind_of, wanted_by};
+ghost use Rattle.std.specs.Prelude.{◌≡◌, Some, None, drop, option_copied, if◌then◌else◌};
+ghost use Rattle.tcap_stories.specs.ExpectedText.{text_fault};
+ghost use Rattle.tcap_stories.specs.StoryLine.{expects_if, is_expectation, kind_of, wanted_by};
 ghost use Rattle.tcap_stories.specs.Views.{line_view};
 
+use crate::expected_text::text_fault;
 use crate::text::is;
 use tcap_play::is_skipped;
 
@@ -14,8 +16,28 @@ pub(crate) enum StoryLine<'s> {
     Skipped,
     /// It says what is expected.
     Expects(&'s [u8]),
-    /// It is a line of a play.
+    /// It is any other: a line of a play, or bad.
     Plays,
+}
+
+/// The text behind `expect` and a space, where they stand first.
+pub(crate) fn expectation(line: &[u8]) -> Option<&[u8]>
+    ensures { option_copied result ≡ (if is_expectation line.now then Some (drop 7 line.now) else None) }
+{
+    match line.split_at_checked(7) {
+        Some((b"expect ", text)) => Some(text),
+        _ => None,
+    }
+}
+
+/// What a line with this text is: it says what is expected where nothing is wrong with a word of it.
+fn expects_if(text: &[u8]) -> StoryLine<'_>
+    ensures { line_view result ≡ expects_if (text_fault text.now) text.now }
+{
+    match text_fault(text) {
+        None => StoryLine::Expects(text),
+        Some(_) => StoryLine::Plays,
+    }
 }
 
 /// What a line is: `expect` and a space stand before what is expected.
@@ -25,9 +47,9 @@ pub(crate) fn kind_of(line: &[u8]) -> StoryLine<'_>
     if is_skipped(line) {
         return StoryLine::Skipped;
     }
-    match line.split_at_checked(7) {
-        Some((b"expect ", text)) if !text.is_empty() => StoryLine::Expects(text),
-        _ => StoryLine::Plays,
+    match expectation(line) {
+        Some(text) => expects_if(text),
+        None => StoryLine::Plays,
     }
 }
 

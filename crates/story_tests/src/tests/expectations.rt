@@ -6,8 +6,20 @@ use tcap_stories::story_text;
 
 /// Stories, what is told of each, and whether it has passed.
 const ROWS: &[(&str, &str, bool)] = &[
-    ("", "", true),
+    // Nothing is played: no line at all, or none but skipped ones, an idle limit and expectations.
+    ("", "no line to play\n", false),
+    ("\n", "no line to play\n", false),
+    ("# a\n\n# b\n", "no line to play\n", false),
+    ("idle 5", "no line to play\n", false),
+    ("idle 5\n\n", "no line to play\n", false),
+    ("expect nothing\n", "no line to play\n", false),
+    (
+        "expect A new 1",
+        "line 1 failed: expected A new 1, found nothing\nno line to play\n",
+        false,
+    ),
     ("A new", "1 A new 1\n", true),
+    ("# a\n\nA new", "3 A new 1\n", true),
     ("A new\nexpect A new 1", "1 A new 1\n", true),
     ("# a\nA new\n\n# b\nexpect A new 1\n", "2 A new 1\n", true),
     (

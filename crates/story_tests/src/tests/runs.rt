@@ -11,6 +11,7 @@ use tcap_story_cmd::{Sources, run_stories};
 const INPUTS: &[(&str, &str)] = &[
     ("good", "A new\nexpect A new 1\n"),
     ("bad", "A new\nexpect nothing\n"),
+    ("empty", ""),
     ("refused", "A new\nA invoke 1 1 1 10 0 - -\n"),
     ("two\nlines\u{7}", "A new\n"),
     ("-x", "A new\n"),
@@ -39,7 +40,7 @@ impl Sources for Inputs {
 
 /// Words, what a run writes for them, what it tells on standard error, and its status. Standard input has `A new`.
 const ROWS: &[(&[&str], &str, &str, u8)] = &[
-    // Standard input, where no other is named, and by its name; it is read once.
+    // Standard input, where no other is named, and by its name; it is read once, and has no line then.
     (
         &[],
         "story -\n1 A new 1\npassed\n1 passed, 0 failed, 0 not read\n",
@@ -48,9 +49,16 @@ const ROWS: &[(&[&str], &str, &str, u8)] = &[
     ),
     (
         &["-", "-"],
-        "story -\n1 A new 1\npassed\nstory -\npassed\n2 passed, 0 failed, 0 not read\n",
+        "story -\n1 A new 1\npassed\nstory -\nno line to play\nfailed\n1 passed, 1 failed, 0 not read\n",
         "",
-        0,
+        1,
+    ),
+    // A file with nothing in it, between two that pass.
+    (
+        &["good", "empty", "good"],
+        "story good\n1 A new 1\npassed\nstory empty\nno line to play\nfailed\nstory good\n1 A new 1\npassed\n2 passed, 1 failed, 0 not read\n",
+        "",
+        1,
     ),
     // In the order of the words; one that fails, and one that can't be opened, and those behind it.
     (
