@@ -11,7 +11,7 @@ use Rattle.tcap_lines.specs.declared.fault.WordFault.{WordFault}
 use Rattle.tcap_lines.proofs.CallerLemmas.{first_told, none_good, some_first}
 use Rattle.tcap_stories.specs.BadLine.{IsBad, IsUnfit, IsWrong, first_of, reason_by, reason_of, unfit_words, wrong_in}
 use Rattle.tcap_stories.specs.ExpectedText.{text_fault}
-use Rattle.tcap_stories.specs.StoryLine.{StoryLine, expects_if, is_expectation, kind_of}
+use Rattle.tcap_stories.specs.StoryLine.{StoryLine, expects_if, is_expectation}
 use Rattle.tcap_stories.specs.StoryTable.{story_table}
 use Rattle.tcap_stories.proofs.ExpectedLemmas.{unwritten_first, unwritten_told}
 use Rattle.tcap_stories.proofs.PieceLemmas.{some_piece}

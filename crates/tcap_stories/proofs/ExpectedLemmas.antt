@@ -1,5 +1,5 @@
 -- The first word of a text that is none: what is computed is the first, and the first is computed.
-use Rattle.std.proofs.Common.{◌≡◌, ◌+◌, ◌<◌, ℕ, zero, suc, not, List, [], ◌∷◌, Option, Some, None, refl, sym, ap, ◌∙◌, arith, subst}
+use Rattle.std.proofs.Common.{◌≡◌, ◌+◌, ◌<◌, ℕ, zero, suc, not, List, [], ◌∷◌, Option, Some, None, refl, ap, ◌∙◌, arith, subst}
 use Rattle.std.specs.Char.{is_ascii_graphic}
 use Rattle.std.specs.List.{find}
 use Rattle.tcap_lines.specs.declared.fault.LineFault.{LineFault}

@@ -3,18 +3,16 @@ use Rattle.std.proofs.Common.{◌≡◌, ◌⊎◌, inl, inr, ◌&&◌, ◌||◌
 use Rattle.std.proofs.lemmas.Slice.Eq.{bytes_eq-Decides}
 use Rattle.ber_core.specs.Options.{◌>>=◌}
 use Rattle.tcap_model.specs.Words.Event.{Event}
-use Rattle.tcap_model.specs.Words.Request.{DialogueRequest, Ending, Request}
-use Rattle.tcap_play.specs.Play.{Fate, Played, Stepped, carried, message_in, sent_by, step}
-use Rattle.tcap_play.specs.ScriptLine.{ScriptLine, abort_request_of, asked_on, begin_request_of, called_on, cancel_request_of, error_request_of, invoke_request_of, last_request_of, line_of, line_of_five, line_of_four, line_of_nine, line_of_six, line_of_three, line_of_two, more_request_of, portion_request_on, received_from, received_on, reject_request_of}
+use Rattle.tcap_model.specs.Words.Request.{Request}
+use Rattle.tcap_play.specs.Play.{Played, Stepped, step}
+use Rattle.tcap_play.specs.ScriptLine.{ScriptLine, abort_request_of, asked_on, begin_request_of, called_on, cancel_request_of, error_request_of, invoke_request_of, last_request_of, line_of, line_of_five, line_of_four, line_of_nine, line_of_six, line_of_three, line_of_two, more_request_of, portion_request_on, reject_request_of}
 use Rattle.tcap_play.specs.ScriptWords.{MessageName, dialogue_of, engine_of, idle_limit_of, milliseconds_of, name_of, named_address, octets_of}
-use Rattle.tcap_play.specs.Sides.{Engine}
 use Rattle.tcap_lines.specs.declared.fault.LineFault.{LineFault}
 use Rattle.tcap_lines.specs.LineFaults.{IsFirstFault}
 use Rattle.tcap_lines.specs.Reading.{first_fault}
 use Rattle.tcap_lines.proofs.CallerLemmas.{first_told, some_first}
 use Rattle.tcap_stories.specs.BadLine.{IsUnfit}
 use Rattle.tcap_stories.specs.StoryTable.{story_table}
-use Rattle.tcap_stories.proofs.AloneForms.{stands_in_story}
 use Rattle.tcap_stories.proofs.StoryForms.{in_story, story_told}
 
 -- ---- lines that name a message
