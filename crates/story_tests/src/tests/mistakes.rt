@@ -63,14 +63,8 @@ const ROWS: &[(&str, &str)] = &[
     ("A begin 1 - -\r", "line 2 bad: word 5, no character 0d\n"),
     // They are wrong in what is expected too: what can't be seen isn't compared. Its own words may be any.
     ("expect A new 1\r", "line 2 bad: word 4, no character 0d\n"),
-    (
-        "expect A new\t1",
-        "line 2 bad: word 3, no character 09\n",
-    ),
-    (
-        "expect \u{1b}[2J",
-        "line 2 bad: word 2, no character 1b\n",
-    ),
+    ("expect A new\t1", "line 2 bad: word 3, no character 09\n"),
+    ("expect \u{1b}[2J", "line 2 bad: word 2, no character 1b\n"),
     (
         "expect A n\u{e9}w 1",
         "line 2 bad: word 3, no character c3\n",
@@ -88,14 +82,8 @@ const ROWS: &[(&str, &str)] = &[
         "line 2 bad: word 3, one space between words\n",
     ),
     ("expect ", "line 2 bad: word 2, one space between words\n"),
-    (
-        "expect\tA new 1",
-        "line 2 bad: word 1, no character 09\n",
-    ),
-    (
-        "expect x",
-        "line 2 failed: expected x, found A new 1\n",
-    ),
+    ("expect\tA new 1", "line 2 bad: word 1, no character 09\n"),
+    ("expect x", "line 2 failed: expected x, found A new 1\n"),
     // Numbers.
     (
         "A invoke 01 1 1 10 1000 - -",
