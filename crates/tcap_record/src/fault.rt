@@ -51,6 +51,11 @@ impl From<AllocError> for WriteFault {
 }
 
 impl fmt::Display for RecordFault {
+    ghost use Rattle.std.specs.Prelude.{Some};
+    ghost use Rattle.tcap_record.specs.FaultText.{record_text};
+
+    ghost output = { λ fault. Some (record_text fault) };
+
     fn fmt<W: fmt::Write>(&self, f: &mut fmt::Formatter<W>) -> fmt::Result {
         write!(f, "no record: octet {}", self.place)
     }
@@ -59,6 +64,11 @@ impl fmt::Display for RecordFault {
 impl Error for RecordFault {}
 
 impl fmt::Display for ReplayFault {
+    ghost use Rattle.std.specs.Prelude.{Some};
+    ghost use Rattle.tcap_record.specs.FaultText.{replay_text};
+
+    ghost output = { λ fault. Some (replay_text fault) };
+
     fn fmt<W: fmt::Write>(&self, f: &mut fmt::Formatter<W>) -> fmt::Result {
         match self {
             ReplayFault::OutOfMemory { done } => write!(f, "out of memory after {done} events"),
