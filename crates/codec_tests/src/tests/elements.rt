@@ -5,7 +5,7 @@ ghost use Rattle.std.specs.Prelude.{◌≤◌, length};
 use ber_core::{
     BerFault, Elements, Feed, FeedFault, MAX_DEPTH, OutOfMemory, is_element_list, is_oid,
     read_alone, read_element, read_head, take_any, take_content, take_only, take_tagged,
-    write_element, write_head,
+    write_element,
 };
 use std::alloc::{AllocError, Global};
 use std::test::Fail;
@@ -202,22 +202,6 @@ fn object_identifiers(rt: HostRuntime) -> Result<(), Fail> {
     for (content, is) in rows {
         assert!(rt; is_oid(content) == *is, "{content:?}");
     }
-    Ok(())
-}
-
-/// Adds a head, an element and another head.
-fn add_heads(bytes: &mut Vec<u8>) -> Result<(), OutOfMemory> {
-    write_head(bytes, &[0x6c], 200)?;
-    write_element(bytes, &[0x04], &[0xaa])?;
-    write_head(bytes, &[0x62], 65_531)
-}
-
-#[test]
-fn heads_and_elements_written(rt: HostRuntime) -> Result<(), Fail> {
-    let mut bytes = Vec::new(rt.alloc());
-    add_heads(&mut bytes)?;
-    let wanted = [0x6c, 0x81, 0xc8, 0x04, 0x01, 0xaa, 0x62, 0x82, 0xff, 0xfb];
-    assert!(rt; bytes.as_slice() == wanted.as_slice());
     Ok(())
 }
 

@@ -1,7 +1,6 @@
-//! Integers, read and written.
+//! Integers, read.
 
-use ber_core::{OutOfMemory, read_int, write_int};
-use std::alloc::Global;
+use ber_core::read_int;
 use std::test::Fail;
 
 #[test]
@@ -20,19 +19,5 @@ fn integers_read(rt: HostRuntime) -> Result<(), Fail> {
     for (content, value) in rows {
         assert!(rt; read_int(content) == *value, "{content:?}");
     }
-    Ok(())
-}
-
-/// An INTEGER of this value.
-fn written(alloc: Global, value: i32) -> Result<Vec<u8>, OutOfMemory> {
-    let mut out = Vec::new(alloc);
-    write_int(&mut out, 0x02, value)?;
-    Ok(out)
-}
-
-#[test]
-fn integer_written(rt: HostRuntime) -> Result<(), Fail> {
-    let out = written(rt.alloc(), 128)?;
-    assert!(rt; out.as_slice() == [0x02, 0x02, 0x00, 0x80].as_slice());
     Ok(())
 }
