@@ -101,6 +101,15 @@ impl<A: Allocator + Copy> Keys<A> {
         Some(key)
     }
 
+    /// Makes the next call for an identifier, which has this key, find it at once.
+    #[inline(always)]
+    pub(crate) fn remember(&mut self, id: u32, key: usize)
+        requires { key_of self.old id ≡ Some key }
+        ensures { self.new ≡ self.old }
+    {
+        self.last = Some(Found { id, key });
+    }
+
     /// Puts an identifier and its key behind the others; alone it takes memory.
     // A part of each insertion of a row: as a call of its own it took 20 instructions more.
     #[inline(always)]

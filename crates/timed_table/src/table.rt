@@ -155,6 +155,20 @@ impl<T: Drop, A: Allocator + Copy> Table<T, A> {
         Some((timer.time, timer.name))
     }
 
+    /// Makes the next call for the identifier of `first` find it at once; takes no memory.
+    // A timer stands under its row's key, so the index isn't asked: that takes some 45 instructions.
+    #[inline(always)]
+    pub fn find_first(&mut self)
+        ensures { self.new ≡ self.old }
+    {
+        let Some(key) = self.timers.first() else {
+            return;
+        };
+        if let Some(timer) = self.timers.get(key) {
+            self.keys.remember(timer.name, key);
+        }
+    }
+
     /// The values whose time is at or before a moment, each once, in no order; takes no memory.
     #[inline(always)]
     pub fn due(&self, moment: u64) -> DueRows<'_, T, A>
