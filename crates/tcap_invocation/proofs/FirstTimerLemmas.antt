@@ -148,13 +148,13 @@ module _ (rows : List Row) where
       go (Sent deadline) e =
           let own : timer_of r ≡ Some (record { time = deadline; number = r.1.number; id = r.0; lapses = true }) = ap (timer_with r.0 r.1.number) e in
           subst (λ (o : Option Timer). IsFirst rows (nearer_at first i (Sent deadline)) (nearer_any (first_timer_below i rows None) o)) (sym own)
-          (nearer-at first (first_timer_below i rows None) h (record { time = deadline; place = i; lapses = true }) (record { time = deadline; number = r.1.number; id = r.0; lapses = true })
-          (record { row = r; at = at; own = own; time = refl; lapses = refl }))
+          (nearer-at first (first_timer_below i rows None) h (record { time = deadline; place = i }) (record { time = deadline; number = r.1.number; id = r.0; lapses = true })
+          (record { row = r; at = at; own = own; time = refl }))
       go (Waiting until) e =
           let own : timer_of r ≡ Some (record { time = until; number = r.1.number; id = r.0; lapses = false }) = ap (timer_with r.0 r.1.number) e in
           subst (λ (o : Option Timer). IsFirst rows (nearer_at first i (Waiting until)) (nearer_any (first_timer_below i rows None) o)) (sym own)
-          (nearer-at first (first_timer_below i rows None) h (record { time = until; place = i; lapses = false }) (record { time = until; number = r.1.number; id = r.0; lapses = false })
-          (record { row = r; at = at; own = own; time = refl; lapses = refl }))
+          (nearer-at first (first_timer_below i rows None) h (record { time = until; place = i }) (record { time = until; number = r.1.number; id = r.0; lapses = false })
+          (record { row = r; at = at; own = own; time = refl }))
 
   pub first-all : (i : ℕ) (first : Option First) → AreInOrder rows → length rows ≤ i → IsFirst rows first (first_timer_below i rows None) → IsFirst rows first (first_of (timers_at rows))
   first-all i first order long h = subst (IsFirst rows first) (below-all i rows None long ∙ first_timer_from-all rows order) h

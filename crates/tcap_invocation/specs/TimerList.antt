@@ -70,7 +70,6 @@ pub record IsAt (rows : List Row) (first : First) (timer : Timer) : Type 0 where
   pub at : slice_get rows first.place ≡ Some row
   pub own : timer_of row ≡ Some timer
   pub time : first.time ≡ timer.time
-  pub lapses : first.lapses ≡ timer.lapses
 
 -- The place is that of this timer, if there is one (own).
 abbrev pub IsFirst : List Row → Option First → Option Timer → Type 0
@@ -87,8 +86,8 @@ nearer_of (Some first) found = Some (if nat_lt found.time first.time then found 
 -- That, and the one of a row at this place, if it has one (own).
 abbrev pub nearer_at : Option First → ℕ → Stage → Option First
 nearer_at first place (Queued timeout) = first
-nearer_at first place (Sent deadline) = nearer_of first (record { time = deadline; place = place; lapses = true })
-nearer_at first place (Waiting until) = nearer_of first (record { time = until; place = place; lapses = false })
+nearer_at first place (Sent deadline) = nearer_of first (record { time = deadline; place = place })
+nearer_at first place (Waiting until) = nearer_of first (record { time = until; place = place })
 
 -- ---- timers in order
 

@@ -156,12 +156,11 @@ pub(super) fn first_due(rows: &[Row], clock: u64) -> Option<Lapse>
 }
 
 /// The first timer of some rows, and the place of its row.
+// Whether it lapses then is asked of the row: kept here, it took 12 instructions more for each row that is looked at.
 #[derive(Clone, Copy)]
 struct First {
     time: u64,
     place: usize,
-    /// Whether the row is Sent, so that it lapses then; else it is Waiting.
-    lapses: bool,
 }
 
 /// The first of those found so far and of that of an invocation at this place.
@@ -169,19 +168,13 @@ struct First {
 fn nearer(first: Option<First>, place: usize, entry: &Invocation) -> Option<First>
     ensures { result ≡ nearer_at first place entry.now.stage }
 {
-    let (time, lapses) = match entry.stage {
+    let time = match entry.stage {
         Stage::Queued(_) => return first,
-        Stage::Sent(deadline) => (deadline, true),
-        Stage::Waiting(until) => (until, false),
-    };
-    let found = First {
-        time,
-        place,
-        lapses,
+        Stage::Sent(time) | Stage::Waiting(time) => time,
     };
     match first {
-        None => Some(found),
-        Some(first) => Some(if time < first.time { found } else { first }),
+        Some(first) if first.time <= time => Some(first),
+        _ => Some(First { time, place }),
     }
 }
 
@@ -233,7 +226,7 @@ pub(super) fn expire_first<A: Allocator + Copy>(
     if clock < first.time {
         return None;
     }
-    if !first.lapses {
+    if let Stage::Waiting(_) = rows[first.place].1.stage {
         free_due(rows, clock);
         return Some(Expiry::Wait);
     }
