@@ -10,6 +10,7 @@ ghost use Rattle.tcap_invocation.specs.Timers.{next_timer_at};
 pub(crate) mod answers;
 pub(crate) mod closing;
 mod few;
+mod few_timers;
 mod indexed;
 pub(crate) mod lapse;
 mod rows;
