@@ -1,20 +1,16 @@
 -- The first timer runs out: what it was of is told first, and the rest from then on is the same.
-use Rattle.std.proofs.Common.{◌≡◌, ℕ, ℤ, suc, ◌<◌, ◌≤◌, Bool, true, false, cond, List, [], ◌∷◌, ◌++◌, length, filter, Option, Some, None, refl, ap, sym, subst, ◌∙◌, arith, tests, nat_lt, nat_le}
-use Rattle.std.specs.Prelude.{filter_map, is_some, option_to_list}
+use Rattle.std.proofs.Common.{◌≡◌, ℕ, suc, ◌<◌, ◌≤◌, Bool, true, false, cond, List, [], ◌∷◌, length, filter, Option, Some, None, refl, ap, sym, subst, ◌∙◌, arith, tests, nat_lt, nat_le}
+use Rattle.std.specs.Prelude.{filter_map}
 use Rattle.std.specs.List.{cons_option}
-use Rattle.std.specs.Map.{lookup}
 use Rattle.std.specs.Option.{option_map}
-use Rattle.std.specs.Ordering.{int_eq}
-use Rattle.tcap_invocation.specs.declared.invocations.Invocation.{Invocation}
-use Rattle.tcap_invocation.specs.declared.invocations.lapse.Expiry.{Expiry}
 use Rattle.tcap_invocation.specs.declared.invocations.lapse.Expiry.TheVariants.{Lapse as Lapses, Wait}
 use Rattle.tcap_invocation.specs.declared.invocations.lapse.Lapse.{Lapse}
 use Rattle.tcap_invocation.specs.declared.invocations.timers.Timer.{Timer}
 use Rattle.tcap_invocation.specs.declared.stage.Stage.{Stage}
 use Rattle.tcap_invocation.specs.declared.stage.Stage.TheVariants.{Queued, Sent, Waiting}
-use Rattle.tcap_invocation.specs.Expiries.{reached, reached_any, first_expiry_at, rows_after, after_expiry, lapse_in, WasNext, RunsOut}
-use Rattle.tcap_invocation.specs.Invocations.{Row, InvocationList, IsSound, entry_at, with_rows, without}
-use Rattle.tcap_invocation.specs.Lapses.{due_deadline, lapse_with, lapse_of, lapse_at, due_at, told_at, first_due_at, is_before, is_held, stays, after_lapse}
+use Rattle.tcap_invocation.specs.Expiries.{reached_any, first_expiry_at, after_expiry, WasNext, RunsOut}
+use Rattle.tcap_invocation.specs.Invocations.{Row, InvocationList, IsSound, with_rows, without}
+use Rattle.tcap_invocation.specs.Lapses.{due_deadline, lapse_with, lapse_of, due_at, first_due_at, is_before, is_held, stays}
 use Rattle.tcap_invocation.specs.Order.{in_order_by, first_of}
 use Rattle.tcap_invocation.specs.TimerList.{is_over, lapse_at_time, timers_at, told_of_timer}
 use Rattle.tcap_invocation.specs.Timers.{next_timer_at}

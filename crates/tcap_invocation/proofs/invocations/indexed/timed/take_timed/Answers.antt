@@ -1,4 +1,4 @@
-use Rattle.std.proofs.Common.{◌≡◌, List, subst, Option, Some, sym}
+use Rattle.std.proofs.Common.{◌≡◌, subst, Option}
 use Rattle.tcap_invocation.specs.declared.invocations.timers.Timer.{Timer}
 use Rattle.tcap_invocation.specs.TimerList.{put_timer}
 use Rattle.tcap_invocation.proofs.TiedLemmas.{IsTimed-without}
