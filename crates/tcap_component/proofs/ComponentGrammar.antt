@@ -9,7 +9,8 @@ use Rattle.ber_core.specs.ElementList.{IsList}
 use Rattle.ber_core.specs.ElementReading.{element_at}
 use Rattle.ber_core.specs.Sequence.{InOrder}
 use Rattle.ber_core.specs.Sequence.Field.{must, may}
-use Rattle.ber_core.proofs.CallerLemmas.{some, some_is, not_some, by_option, by_result, refused, read_is, refused_is, not_read, not_refused, element_takes, element_again}
+use Rattle.ber_core.specs.SequenceReading.{tagged, content_at, is_tag}
+use Rattle.ber_core.proofs.CallerLemmas.{some, some_is, is_tag-is, not_some, by_option, by_result, refused, read_is, refused_is, not_read, not_refused, element_takes, element_again}
 use Rattle.tcap_component.specs.declared.fault.ComponentFault.{ComponentFault}
 use Rattle.tcap_component.specs.declared.component.Form.{Form}
 use Rattle.tcap_component.specs.Views.{Reads, fault_parts}
@@ -176,6 +177,23 @@ component_told bytes f (mistyped e rest id i g s h t) =
       | inl n ↦ told_by e rest id 1 i t (rw (k.1, structured_again e k.0 k.1 s, n) refl)
       | inr c ↦ absurd (h c.0 (is_component e k.0 c.0 k.1 c.1))
     ]
+
+-- contents that are read in an element of this form's tag are those of the first component
+pub component_here : (tag : ℕ) (f : Form) (bytes : List ℕ) (r : List ℕ × List ℕ) (c : ComponentParts) → form_at (tag ∷ []) ≡ Some f → content_at tag bytes ≡ Some r → contents_at f r.0 ≡ Some c → component_at bytes ≡ Ok (c, r.1)
+unfolding tagged component_at
+component_here tag f bytes r c t h k = elim (by_result (element_at 32 bytes)) [
+  | inl d ↦ let h = h in let no : None ≡ some r = rw d.1 at h in absurd cc
+  | inr p ↦ elim (cases_Bool (is_tag tag p.0.0.tag)) [
+    | inl y ↦
+        let h = h in
+        let same : some (p.0.0.content, p.0.1) ≡ some r = rw (p.1, y) at h in
+        let pair = some_is (p.0.0.content, p.0.1) r same in
+        let form = ap form_at (is_tag-is tag p.0.0.tag y) ∙ t in
+        let read = ap (λ (q : List ℕ × List ℕ). contents_at f q.0) pair ∙ k in
+        rw (p.1, verdict_read p.0.0.tag p.0.0.content f c form read) (ap (λ (q : List ℕ × List ℕ). Ok (c, q.1)) pair)
+    | inr n ↦ let h = h in let no : None ≡ some r = rw (p.1, n) at h in absurd cc
+  ]
+]
 
 -- ---- the laws and the clauses of read_component
 

@@ -70,7 +70,7 @@ parameter-in : (tag : ℕ) (tags : List ℕ) (o : Option Slice) (mid bytes : Sli
 parameter-in tag tags None mid bytes i h = tt
 parameter-in tag tags (Some w) mid bytes i h = ends-in tag tags w mid bytes i h
 
-coded-in : (tag : ℕ) (tags : List ℕ) (c : Code) (o : Option Slice) (mid bytes : Slice) → IsInside tag mid bytes → CodedOnWay tags c o mid → CodedOnWay (tag ∷ tags) c o bytes
+pub coded-in : (tag : ℕ) (tags : List ℕ) (c : Code) (o : Option Slice) (mid bytes : Slice) → IsInside tag mid bytes → CodedOnWay tags c o mid → CodedOnWay (tag ∷ tags) c o bytes
 coded-in tag tags c o mid bytes i h = (code-in tag tags c mid bytes i h.0, parameter-in tag tags o mid bytes i h.1)
 
 pub body-in : (tag : ℕ) (tags : List ℕ) (b : Option Body) (mid bytes : Slice) → IsInside tag mid bytes → BodyOnWay tags b mid → BodyOnWay (tag ∷ tags) b bytes

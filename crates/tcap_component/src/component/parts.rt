@@ -8,7 +8,8 @@ ghost use Rattle.ber_core.specs.SequenceReading.{tagged, content_at};
 ghost use Rattle.ber_core.specs.Way.{GoesOn};
 ghost use Rattle.tcap_component.specs.Place.{CodeOnWay, CodedOnWay, BodyOnWay};
 ghost use Rattle.tcap_component.specs.Problem.{problem_tag};
-ghost use Rattle.tcap_component.specs.ComponentReading.{identifier_of, identifier_at, linked_at, global_from, code_at, body_at, result_at, rejected_at, problem_kind, problem_code, problem_at};
+ghost use Rattle.tcap_component.specs.Component.ComponentParts.{invoke};
+ghost use Rattle.tcap_component.specs.ComponentReading.{identifier_of, identifier_at, linked_at, global_from, code_at, body_at, invoke_at, result_at, rejected_at, problem_kind, problem_code, problem_at};
 ghost use Rattle.tcap_component.specs.Views.{code_parts, body_parts, problem_parts};
 
 use crate::component::{Body, Code};
@@ -64,7 +65,7 @@ pub(crate) fn take_identifier(bytes: &[u8]) -> Option<(i8, &[u8])>
 /// [80 linked identifier], and what follows it.
 #[tactic(auto, unfolding(crate::specs::ComponentReading::linked_at))]
 #[inline(always)]
-pub(crate) fn take_linked(bytes: &[u8]) -> Option<(Option<i8>, &[u8])>
+fn take_linked(bytes: &[u8]) -> Option<(Option<i8>, &[u8])>
     ensures value { option_map (λ r. (r.0, r.1.now)) result ≡ linked_at bytes.now }
     ensures code { IfSome result (λ r. GoesOn 0x06 r.1 bytes.entry) }
 {
@@ -77,8 +78,7 @@ pub(crate) fn take_linked(bytes: &[u8]) -> Option<(Option<i8>, &[u8])>
     }
 }
 
-/// 06 object identifier, and what follows it. Most codes are local, so it stands apart.
-#[inline(never)]
+/// 06 object identifier, and what follows it.
 fn take_global<'a>(bytes: &'a [u8]) -> Option<(Code<'a>, &'a [u8])>
     ensures value { option_map (λ r. (code_parts r.0, r.1.now)) result
         ≡ bound (content_at 0x06 bytes.now) global_from }
@@ -91,6 +91,20 @@ fn take_global<'a>(bytes: &'a [u8]) -> Option<(Code<'a>, &'a [u8])>
     Some((Code::Global(octets), rest))
 }
 
+/// `take_code` of a code in any form. Most are local and have one octet, so it stands apart.
+#[tactic(auto, unfolding(crate::specs::ComponentReading::code_at))]
+#[inline(never)]
+fn take_any_code<'a>(bytes: &'a [u8]) -> Option<(Code<'a>, &'a [u8])>
+    ensures value { option_map (λ r. (code_parts r.0, r.1.now)) result ≡ code_at bytes.now }
+    ensures place { IfSome result (λ r. CodeOnWay [] r.0 bytes.entry × AtEnd r.1 bytes.entry) }
+{
+    if let (Some(content), rest) = take_tagged(bytes, tag::INTEGER) {
+        let number = read_int(content)?;
+        return Some((Code::Local(number), rest));
+    }
+    take_global(bytes)
+}
+
 /// A code: 02 integer or 06 object identifier, and what follows it.
 #[tactic(auto, unfolding(crate::specs::ComponentReading::code_at, ber_core::specs::Integer::integer_at, ber_core::specs::Integer::signed_after))]
 #[inline(always)]
@@ -101,11 +115,7 @@ fn take_code<'a>(bytes: &'a [u8]) -> Option<(Code<'a>, &'a [u8])>
     if let Some((octet, rest)) = take_octet(bytes) {
         return Some((Code::Local(i32::from(octet.cast_signed())), rest));
     }
-    if let (Some(content), rest) = take_tagged(bytes, tag::INTEGER) {
-        let number = read_int(content)?;
-        return Some((Code::Local(number), rest));
-    }
-    take_global(bytes)
+    take_any_code(bytes)
 }
 
 /// Code, [parameter].
@@ -121,6 +131,20 @@ pub(crate) fn read_body<'a>(bytes: &'a [u8]) -> Option<Body<'a>>
         return None;
     }
     Some(Body { code, parameter })
+}
+
+/// An Invoke: 02 identifier, [80 linked identifier], code, [parameter].
+#[tactic(auto, unfolding(crate::specs::ComponentReading::invoke_at))]
+#[inline(always)]
+pub(crate) fn read_invoke_fields<'a>(bytes: &'a [u8]) -> Option<(i8, Option<i8>, Body<'a>)>
+    ensures value { option_map (λ r. invoke r.0 r.1 (code_parts r.2.code) (option_copied r.2.parameter)) result
+        ≡ invoke_at bytes.now }
+    ensures place { IfSome result (λ r. CodedOnWay [] r.2.code r.2.parameter bytes.entry) }
+{
+    let (id, rest) = take_identifier(bytes)?;
+    let (linked, rest) = take_linked(rest)?;
+    let body = read_body(rest)?;
+    Some((id, linked, body))
 }
 
 /// A result: 02 identifier, [30 { code, [parameter] }].

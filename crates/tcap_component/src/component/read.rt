@@ -15,7 +15,8 @@ ghost use Rattle.tcap_component.specs.Written.{HasParts};
 ghost use Rattle.tcap_component.specs.Views.{Reads, fault_parts, component_parts};
 
 use crate::component::parts::{
-    identifier, read_body, read_problem, read_result, take_identifier, take_linked, take_rejected,
+    identifier, read_body, read_invoke_fields, read_problem, read_result, take_identifier,
+    take_rejected,
 };
 use crate::component::{Body, Component, Form};
 use crate::fault::ComponentFault;
@@ -24,7 +25,7 @@ use crate::problem::general_problem::{
     BADLY_STRUCTURED_COMPONENT, MISTYPED_COMPONENT, UNRECOGNIZED_COMPONENT,
 };
 use crate::tag;
-use ber_core::{Element, is_element_list, read_element, take_any, take_tagged};
+use ber_core::{Element, is_element_list, read_element, take_any, take_short, take_tagged};
 
 /// Invoke: 02 identifier, [80 linked identifier], code, [parameter].
 #[tactic(auto, unfolding(crate::specs::ComponentReading::invoke_at))]
@@ -33,9 +34,8 @@ fn read_invoke<'a>(content: &'a [u8]) -> Option<Component<'a>>
     ensures value { option_map component_parts result ≡ invoke_at content.now }
     ensures place { IfSome result (λ c. FieldsOnWay [] c content.entry) }
 {
-    let (id, rest) = take_identifier(content)?;
-    let (linked, rest) = take_linked(rest)?;
-    let Body { code, parameter } = read_body(rest)?;
+    let (id, linked, body) = read_invoke_fields(content)?;
+    let Body { code, parameter } = body;
     Some(Component::Invoke {
         id,
         linked,
@@ -206,7 +206,7 @@ fn general_fault(code: u8, id: Option<i8>, octets: &[u8]) -> ComponentFault
 
 /// The first component and what follows it, in exact form.
 #[tactic(auto, unfolding(crate::specs::ComponentReading::component_at))]
-#[inline(always)]
+#[inline(never)]
 fn split_component<'a>(bytes: &'a [u8]) -> Result<(Component<'a>, &'a [u8]), ComponentFault>
     ensures value { Reads (λ r. (component_parts r.0, r.1.now)) result (component_at bytes.now) }
     ensures place { IfOk result (λ r. ComponentInPlace r.0 bytes.entry × AtEnd r.1 bytes.entry) }
@@ -217,6 +217,33 @@ fn split_component<'a>(bytes: &'a [u8]) -> Result<(Component<'a>, &'a [u8]), Com
     match judge(element.tag, element.content) {
         Ok(component) => Ok((component, rest)),
         Err(code) => Err(general_fault(code, front_id(&element), bytes)),
+    }
+}
+
+/// The same as `split_component`, where no short Return Result Last stands first: mostly a short Invoke.
+#[inline(never)]
+fn split_unlike_result<'a>(bytes: &'a [u8]) -> Result<(Component<'a>, &'a [u8]), ComponentFault>
+    ensures value { Reads (λ r. (component_parts r.0, r.1.now)) result (component_at bytes.now) }
+    ensures place { IfOk result (λ r. ComponentInPlace r.0 bytes.entry × AtEnd r.1 bytes.entry) }
+{
+    if let Some((content, rest)) = take_short(bytes, tag::INVOKE) {
+        if let Some((id, linked, Body { code, parameter })) = read_invoke_fields(content) {
+            return Ok((
+                Component::Invoke {
+                    id,
+                    linked,
+                    code,
+                    parameter,
+                },
+                rest,
+            ));
+        }
+    }
+    // Given on by its parts. As it is, it would share its place with what is built above, which would then be
+    // moved: 20 instructions an Invoke.
+    match split_component(bytes) {
+        Ok(first) => Ok(first),
+        Err(fault) => Err(fault),
     }
 }
 
@@ -241,5 +268,14 @@ pub fn read_component<'a>(bytes: &'a [u8]) -> Result<(Component<'a>, &'a [u8]), 
     // The same, computed: what the layers above cite.
     ensures exact { Reads (λ r. (component_parts r.0, r.1.now)) result (component_at bytes.now) }
 {
-    split_component(bytes)
+    // Most are a Return Result Last or an Invoke whose length is one octet. The tag then says the form, and
+    // contents that are read whole are a list of elements: nothing is left to be judged. Each of the two
+    // is built where it is given. As one function for all forms, what was read was moved four times on its
+    // way, up to 110 instructions a step.
+    if let Some((content, rest)) = take_short(bytes, tag::RETURN_RESULT_LAST) {
+        if let Some((id, body)) = read_result(content) {
+            return Ok((Component::ResultLast { id, body }, rest));
+        }
+    }
+    split_unlike_result(bytes)
 }
