@@ -1,4 +1,4 @@
-use Rattle.std.proofs.Common.{◌≡◌, refl, ap, arith, vec_len, vec_capacity, to_z, of_z, w8}
+use Rattle.std.proofs.Common.{◌≡◌, refl, ap, arith, vec_len, vec_capacity, w8}
 use Rattle.std.proofs.lemmas.Int.{to_z-of_z}
 use Rattle.tcap_primitives.specs.OutboxOctets.{operation_named}
 use Rattle.tcap_primitives.specs.OutboxSpans.{octets_left}
