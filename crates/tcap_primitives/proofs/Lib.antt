@@ -2,6 +2,7 @@ pub mod AbortLemmas
 pub mod CallerLemmas
 pub mod CancelLemmas
 pub mod CutLemmas
+pub mod LastItem
 pub mod OutboxLemmas
 pub mod OutboxRecords
 pub mod PortionLemmas

@@ -9,7 +9,7 @@ ghost use Rattle.tcap_pdu.specs.FrameWritten.{written_frame};
 ghost use Rattle.tcap_primitives.specs.IndicationViews.{indicated, indicated_octets, indicated_slices};
 ghost use Rattle.tcap_primitives.specs.OutputViews.{all_shown};
 ghost use Rattle.tcap_primitives.specs.SendingViews.{sending_view};
-ghost use Rattle.tcap_primitives.specs.Slices.{LieIn, LieInPlace, slices_of};
+ghost use Rattle.tcap_primitives.specs.Slices.{LieIn, LieInPlace, Slices, slices_of};
 
 use crate::indication::Indication;
 use crate::outbox::Outbox;
@@ -63,6 +63,33 @@ impl<'m, A: Allocator + Copy, K: SinkKind> Model for Sink<'m, A, K> {
     ghost Value = { Filled };
 
     ghost view = { λ s. filled_by K.TO_OUTBOX s.vector s.outbox };
+}
+
+/// Appends a message that is sent to this address, of at most 255 octets, for which there is a place.
+// The address is written where the output stands: one that was made before was copied twice, 256 octets each time, 50
+// instructions a message.
+#[inline(always)]
+fn push_sent<'m, A: Allocator + Copy>(
+    vector: &mut Vec<Output<'m, A>, A>,
+    to: &[u8],
+    bytes: Vec<u8, A>,
+)
+    requires to { length to.now ≤ 255 }
+    requires place { vec_len vector.old < vec_capacity vector.old }
+    ensures outputs { all_shown vector.new.items
+        ≡ all_shown vector.old.items ++ model.Output.send to.now bytes.items ∷ [] }
+    ensures slices { map slices_of vector.new.items ≡ map slices_of vector.old.items ++ Slices.none ∷ [] }
+    ensures len { vec_len vector.new ≡ vec_len vector.old + 1 }
+    ensures capacity { vec_capacity vector.new ≡ vec_capacity vector.old }
+{
+    vector.push_reserved(Output::Send {
+        to: Address::empty(),
+        bytes,
+    });
+    let last = vector.len() - 1;
+    if let Output::Send { to: kept, .. } = &mut vector[last] {
+        kept.hold(to);
+    }
 }
 
 impl<'m, A: Allocator + Copy> Sink<'m, A, ToVector> {
@@ -180,8 +207,7 @@ impl<'m, A: Allocator + Copy, K: SinkKind> Sink<'m, A, K> {
         }
         let mut bytes = Vec::with_capacity(*self.vector.allocator(), message.len())?;
         message.append(&mut bytes);
-        let to = Address::new(to).unwrap();
-        self.vector.push_reserved(Output::Send { to, bytes });
+        push_sent(&mut self.vector, to, bytes);
         Ok(())
     }
 

@@ -13,10 +13,9 @@ ghost use Rattle.tcap_primitives.specs.IndicationViews.{indicated, indicated_oct
 ghost use Rattle.tcap_primitives.specs.Slices.{LieIn, LieInPlace};
 ghost use Rattle.tcap_primitives.specs.declared.indication.Indication.TheVariants as indication;
 
-use super::{Sink, SinkKind};
+use super::{Sink, SinkKind, push_sent};
 use crate::output::Output;
 use std::alloc::{AllocError, Allocator};
-use tcap_address::Address;
 use tcap_component::{Body, Code};
 use tcap_pdu::{Frame, MessageLength, append_frame};
 
@@ -106,8 +105,7 @@ impl<'m, A: Allocator + Copy, K: SinkKind> Sink<'m, A, K> {
         }
         let mut bytes = Vec::with_capacity(*self.vector.allocator(), len.octets())?;
         append_frame(&mut bytes, frame, len);
-        let to = Address::new(to).unwrap();
-        self.vector.push_reserved(Output::Send { to, bytes });
+        push_sent(&mut self.vector, to, bytes);
         Ok(())
     }
 }
