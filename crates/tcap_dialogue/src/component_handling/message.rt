@@ -3,7 +3,7 @@
 // Hints to inline: each step of an engine runs through it; docs/PERF.md says what the whole of it inlined gains.
 
 ghost use Rattle.std.specs.Option.{option_map};
-ghost use Rattle.std.specs.Prelude.{◌≡◌, ◌+◌, ◌*◌, ◌≤◌, ◌++◌, ◌⊎◌, Option, IfSome, OnOk, length, vec_len, vec_capacity};
+ghost use Rattle.std.specs.Prelude.{◌≡◌, ◌+◌, ◌*◌, ◌≤◌, ◌++◌, ◌⊎◌, true, Option, IfSome, OnOk, length, vec_len, vec_capacity};
 ghost use Rattle.ber_core.specs.ListReading.{items_of};
 ghost use Rattle.ber_core.specs.Place.{Slice};
 ghost use Rattle.tcap_component.specs.ComponentReading.{components_of};
@@ -73,7 +73,7 @@ fn count_items(components: &[u8]) -> usize
 }
 
 /// Makes room for the Rejects that answer the components of a message, for which `room_for` gave `items`.
-// A message without components costs no call.
+// Mostly there is room, or there are no components: neither costs a call, which took 25 instructions a message.
 #[inline(always)]
 pub(crate) fn reserve_rejects<A: Allocator + Copy>(
     queue: &mut Queue<A>,
@@ -87,15 +87,15 @@ pub(crate) fn reserve_rejects<A: Allocator + Copy>(
     ensures parts { OnOk result (vec_len queue.new.parts + length (components_of components.now)
         ≤ vec_capacity queue.new.parts) }
 {
-    if items == 0 {
+    if items == 0 || has_reject_room(queue, items) {
         return Ok(());
     }
     reserve_some(queue, components, items)
 }
 
-/// `reserve_rejects`, where there are elements.
-// There is mostly room for all elements, or for none. Where there is some, the components up to the first fault may
-// need no more: to tell that, a few are read once more.
+/// `reserve_rejects`, where there are elements and not room for all of them.
+// There is mostly room for none. Where there is some, the components up to the first fault may need no more: to tell
+// that, a few are read once more.
 #[inline(never)]
 fn reserve_some<A: Allocator + Copy>(
     queue: &mut Queue<A>,
@@ -109,7 +109,7 @@ fn reserve_some<A: Allocator + Copy>(
     ensures parts { OnOk result (vec_len queue.new.parts + length (components_of components.now)
         ≤ vec_capacity queue.new.parts) }
 {
-    if items > FEW || has_reject_room(queue, items) || is_full(queue) {
+    if items > FEW || is_full(queue) {
         return queue.reserve_rejects(items);
     }
     queue.reserve_rejects(count_items(components))
@@ -122,7 +122,11 @@ fn is_full<A: Allocator + Copy>(queue: &Queue<A>) -> bool {
 }
 
 /// Whether the queue has room for so many Rejects.
-fn has_reject_room<A: Allocator + Copy>(queue: &Queue<A>, count: usize) -> bool {
+#[inline(always)]
+fn has_reject_room<A: Allocator + Copy>(queue: &Queue<A>, count: usize) -> bool
+    ensures octets { result ≡ true → vec_len queue.now.octets + 8 * count ≤ vec_capacity queue.now.octets }
+    ensures parts { result ≡ true → vec_len queue.now.parts + count ≤ vec_capacity queue.now.parts }
+{
     queue.has_room(count.saturating_mul(MAX_REJECT))
         && count <= queue.parts.capacity() - queue.parts.len()
 }
