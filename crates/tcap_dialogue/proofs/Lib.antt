@@ -1,5 +1,6 @@
 pub mod CallerLemmas
 pub mod DialogueRequestLemmas
+pub mod FirstTaken
 pub mod InvokeLemmas
 pub mod ItemLemmas
 pub mod OctetLemmas
