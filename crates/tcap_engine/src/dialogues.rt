@@ -123,6 +123,14 @@ impl<A: Allocator + Copy> Dialogues<A> {
         self.rows.first()
     }
 
+    /// Makes the next call for the dialogue of the first timer find it at once.
+    #[inline(always)]
+    pub(crate) fn find_first(&mut self)
+        ensures { self.new ≡ self.old }
+    {
+        self.rows.find_first();
+    }
+
     /// How much room the answer to a moment needs, as far as a `usize` can tell: none for outputs where
     /// nothing is told.
     pub(crate) fn capacity_at(&self, now: u64) -> Capacity
@@ -188,11 +196,38 @@ pub(crate) fn timer_after<A: Allocator + Copy>(dialogue: &Dialogue<A>, is_over: 
     if is_over { None } else { dialogue.next_timer() }
 }
 
+/// Writes the next timer of the dialogue of an identifier.
+// One copy serves all calls: a copy in each would fill the cache of instructions, which costs more than the call. That
+// took a tenth to a quarter off its misses. Apart from `take_out`, for which a call saves six registers.
+#[inline(never)]
+fn write_timer<A: Allocator + Copy>(
+    rows: &mut Table<Dialogue<A>, A>,
+    identifier: u32,
+    timer: Option<u64>,
+)
+    ensures rows { rows.new ≡ with_time identifier timer rows.old }
+    ensures entries { entries_of rows.new ≡ entries_of rows.old }
+{
+    rows.set_time(identifier, timer);
+}
+
+/// Takes out the dialogue of an identifier, which is over; the memory that it leaves is kept.
+#[inline(never)]
+fn take_out<A: Allocator + Copy>(
+    rows: &mut Table<Dialogue<A>, A>,
+    spares: &mut Spares<A>,
+    identifier: u32,
+)
+    ensures rows { rows.new ≡ without identifier rows.old }
+    ensures entries { entries_of rows.new ≡ remove_entry (nat_eq identifier) (entries_of rows.old) }
+{
+    leave_memory(rows, spares, identifier);
+    rows.remove(identifier);
+}
+
 /// After the dialogue of an identifier took a step: where it is over it is taken out, and the memory that it leaves
 /// is kept; else this is its next timer.
-// One copy serves all calls: a copy in each would fill the cache of instructions, which costs more than the
-// call. That took a tenth to a quarter off its misses.
-#[inline(never)]
+#[inline(always)]
 pub(crate) fn settle<A: Allocator + Copy>(
     rows: &mut Table<Dialogue<A>, A>,
     spares: &mut Spares<A>,
@@ -204,10 +239,9 @@ pub(crate) fn settle<A: Allocator + Copy>(
     ensures entries { entries_of rows.new
         ≡ (if is_over then remove_entry (nat_eq identifier) (entries_of rows.old) else entries_of rows.old) }
 {
-    if !is_over {
-        rows.set_time(identifier, timer);
-        return;
+    if is_over {
+        take_out(rows, spares, identifier);
+    } else {
+        write_timer(rows, identifier, timer);
     }
-    leave_memory(rows, spares, identifier);
-    rows.remove(identifier);
 }

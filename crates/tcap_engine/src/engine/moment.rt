@@ -44,6 +44,7 @@ fn expire_first<'m, A: Allocator + Copy, K: SinkKind>(
         ≤ sink.new.places + length (all_told now (dialogues_of table.old)) }
 {
     let first = first_timer_by(table, now)?;
+    table.find_first();
     let dialogue = table.rows.get_mut(first.1)?;
     let timer = dialogue.expire_first(now, sink)?;
     let next = dialogue.next_timer();

@@ -1,4 +1,4 @@
-use Rattle.std.proofs.Common.{rules, arith, ◌≡◌, nat_eq, sym, List, Some}
+use Rattle.std.proofs.Common.{rules, arith, ◌∙◌, ◌≡◌, nat_eq, sym, List, Some}
 use Rattle.std.specs.Map.{lookup}
 use Rattle.tcap_engine.specs.Lapsing.{IsFirstTimer}
 use Rattle.tcap_engine.specs.DialogueEntries.{TableEntry}
@@ -17,39 +17,39 @@ returns-clause-some g c =
     let ps : List TableEntry = entries_of c.table.inside.rows in
     let t = c.in_ok-first.first.0 in
     let d = c.in_ok-first.first.1 in
-    let first : IsFirstTimer ps (t, d) = rw (← c.table.view_is) at c.in_ok-first.ensures.first in
-    let from = rw (← c.table.view_is) at c.requires.from in
+    let first : IsFirstTimer ps (t, d) = rw (← (c.table.view_is ∙ c.find_first.ensures)) at c.in_ok-first.ensures.first in
+    let from = rw (← (c.table.view_is ∙ c.find_first.ensures)) at c.requires.from in
     let old = c.in_ok-dialogue.dialogue.now in
     let found : lookup (nat_eq d) ps ≡ Some old = search rules in
     let r = ran c.args.now t d ps old from first c.in_ok-first.ensures.reached found c.in_ok-timer.ensures.rest in
     let new = c.expire_first.new.self in
-    rw (← c.table.view_is, c.set_time.ensures.entries, (c.get_mut.follows.holds new).entries) (expires c.args.now t d ps old from first c.in_ok-first.ensures.reached found new c.in_ok-timer.timer r c.in_ok-timer.ensures.dialogue (sym c.in_ok-timer.ensures.timer))
+    rw (← (c.table.view_is ∙ c.find_first.ensures), c.set_time.ensures.entries, (c.get_mut.follows.holds new).entries) (expires c.args.now t d ps old from first c.in_ok-first.ensures.reached found new c.in_ok-timer.timer r c.in_ok-timer.ensures.dialogue (sym c.in_ok-timer.ensures.timer))
 
 pub returns-clause-told : goal.returns-clause-told
 returns-clause-told g c =
     let ps : List TableEntry = entries_of c.table.inside.rows in
     let t = c.in_ok-first.first.0 in
     let d = c.in_ok-first.first.1 in
-    let first : IsFirstTimer ps (t, d) = rw (← c.table.view_is) at c.in_ok-first.ensures.first in
-    let from = rw (← c.table.view_is) at c.requires.from in
+    let first : IsFirstTimer ps (t, d) = rw (← (c.table.view_is ∙ c.find_first.ensures)) at c.in_ok-first.ensures.first in
+    let from = rw (← (c.table.view_is ∙ c.find_first.ensures)) at c.requires.from in
     let old = c.in_ok-dialogue.dialogue.now in
     let found : lookup (nat_eq d) ps ≡ Some old = search rules in
     let r = ran c.args.now t d ps old from first c.in_ok-first.ensures.reached found c.in_ok-timer.ensures.rest in
     let new = c.expire_first.new.self in
-    rw (← c.table.view_is, c.set_time.ensures.entries, (c.get_mut.follows.holds new).entries) (tells c.args.now t d ps old from first c.in_ok-first.ensures.reached found new c.args.sink.now.outputs c.expire_first.new.sink.outputs r c.in_ok-timer.ensures.dialogue c.in_ok-timer.ensures.told)
+    rw (← (c.table.view_is ∙ c.find_first.ensures), c.set_time.ensures.entries, (c.get_mut.follows.holds new).entries) (tells c.args.now t d ps old from first c.in_ok-first.ensures.reached found new c.args.sink.now.outputs c.expire_first.new.sink.outputs r c.in_ok-timer.ensures.dialogue c.in_ok-timer.ensures.told)
 
 pub returns-clause-places : goal.returns-clause-places
 returns-clause-places g c =
     let ps : List TableEntry = entries_of c.table.inside.rows in
     let t = c.in_ok-first.first.0 in
     let d = c.in_ok-first.first.1 in
-    let first : IsFirstTimer ps (t, d) = rw (← c.table.view_is) at c.in_ok-first.ensures.first in
-    let from = rw (← c.table.view_is) at c.requires.from in
+    let first : IsFirstTimer ps (t, d) = rw (← (c.table.view_is ∙ c.find_first.ensures)) at c.in_ok-first.ensures.first in
+    let from = rw (← (c.table.view_is ∙ c.find_first.ensures)) at c.requires.from in
     let old = c.in_ok-dialogue.dialogue.now in
     let found : lookup (nat_eq d) ps ≡ Some old = search rules in
     let r = ran c.args.now t d ps old from first c.in_ok-first.ensures.reached found c.in_ok-timer.ensures.rest in
     let new = c.expire_first.new.self in
-    rw (← c.table.view_is, c.set_time.ensures.entries, (c.get_mut.follows.holds new).entries) (fits c.args.now t d ps old from first c.in_ok-first.ensures.reached found new c.args.sink.now.places c.expire_first.new.sink.places r c.in_ok-timer.ensures.dialogue c.in_ok-timer.ensures.places)
+    rw (← (c.table.view_is ∙ c.find_first.ensures), c.set_time.ensures.entries, (c.get_mut.follows.holds new).entries) (fits c.args.now t d ps old from first c.in_ok-first.ensures.reached found new c.args.sink.now.places c.expire_first.new.sink.places r c.in_ok-timer.ensures.dialogue c.in_ok-timer.ensures.places)
 
 pub expire_first-requires-clause-places : goal.expire_first-requires-clause-places
 expire_first-requires-clause-places g c =
@@ -58,7 +58,7 @@ expire_first-requires-clause-places g c =
     let old = c.in_ok-dialogue.dialogue.now in
     let found : lookup (nat_eq d) ps ≡ Some old = search rules in
     let most = told-within c.args.now d ps old found in
-    let room = rw (← c.table.view_is) at c.requires.places in
+    let room = rw (← (c.table.view_is ∙ c.find_first.ensures)) at c.requires.places in
     omega (arith, most, room)
 
 -- the first timer of all is that of its dialogue, so it has one
@@ -68,8 +68,8 @@ invariant_of-table-in_err-timer g c =
     let ps : List TableEntry = entries_of c.table.inside.rows in
     let t = c.in_ok-first.first.0 in
     let d = c.in_ok-first.first.1 in
-    let first : IsFirstTimer ps (t, d) = rw (← c.table.view_is) at c.in_ok-first.ensures.first in
-    let from = rw (← c.table.view_is) at c.requires.from in
+    let first : IsFirstTimer ps (t, d) = rw (← (c.table.view_is ∙ c.find_first.ensures)) at c.in_ok-first.ensures.first in
+    let from = rw (← (c.table.view_is ∙ c.find_first.ensures)) at c.requires.from in
     let old = c.in_ok-dialogue.dialogue.now in
     let found : lookup (nat_eq d) ps ≡ Some old = search rules in
     let r = ran c.args.now t d ps old from first c.in_ok-first.ensures.reached found c.in_err-timer.ensures.rest in
@@ -81,8 +81,8 @@ returns-in_err-timer-clause-none g c =
     let ps : List TableEntry = entries_of c.table.inside.rows in
     let t = c.in_ok-first.first.0 in
     let d = c.in_ok-first.first.1 in
-    let first : IsFirstTimer ps (t, d) = rw (← c.table.view_is) at c.in_ok-first.ensures.first in
-    let from = rw (← c.table.view_is) at c.requires.from in
+    let first : IsFirstTimer ps (t, d) = rw (← (c.table.view_is ∙ c.find_first.ensures)) at c.in_ok-first.ensures.first in
+    let from = rw (← (c.table.view_is ∙ c.find_first.ensures)) at c.requires.from in
     let old = c.in_ok-dialogue.dialogue.now in
     let found : lookup (nat_eq d) ps ≡ Some old = search rules in
     let r = ran c.args.now t d ps old from first c.in_ok-first.ensures.reached found c.in_err-timer.ensures.rest in
@@ -94,8 +94,8 @@ returns-in_err-timer-clause-told g c =
     let ps : List TableEntry = entries_of c.table.inside.rows in
     let t = c.in_ok-first.first.0 in
     let d = c.in_ok-first.first.1 in
-    let first : IsFirstTimer ps (t, d) = rw (← c.table.view_is) at c.in_ok-first.ensures.first in
-    let from = rw (← c.table.view_is) at c.requires.from in
+    let first : IsFirstTimer ps (t, d) = rw (← (c.table.view_is ∙ c.find_first.ensures)) at c.in_ok-first.ensures.first in
+    let from = rw (← (c.table.view_is ∙ c.find_first.ensures)) at c.requires.from in
     let old = c.in_ok-dialogue.dialogue.now in
     let found : lookup (nat_eq d) ps ≡ Some old = search rules in
     let r = ran c.args.now t d ps old from first c.in_ok-first.ensures.reached found c.in_err-timer.ensures.rest in
@@ -107,8 +107,8 @@ returns-in_err-timer-clause-places g c =
     let ps : List TableEntry = entries_of c.table.inside.rows in
     let t = c.in_ok-first.first.0 in
     let d = c.in_ok-first.first.1 in
-    let first : IsFirstTimer ps (t, d) = rw (← c.table.view_is) at c.in_ok-first.ensures.first in
-    let from = rw (← c.table.view_is) at c.requires.from in
+    let first : IsFirstTimer ps (t, d) = rw (← (c.table.view_is ∙ c.find_first.ensures)) at c.in_ok-first.ensures.first in
+    let from = rw (← (c.table.view_is ∙ c.find_first.ensures)) at c.requires.from in
     let old = c.in_ok-dialogue.dialogue.now in
     let found : lookup (nat_eq d) ps ≡ Some old = search rules in
     let r = ran c.args.now t d ps old from first c.in_ok-first.ensures.reached found c.in_err-timer.ensures.rest in
