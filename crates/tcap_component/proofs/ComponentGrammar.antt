@@ -1,6 +1,6 @@
 -- What is read is a component, each component is read, and each fault is told.
 use Rattle.std.proofs.Common.{◌≡◌, ℕ, ℤ, true, false, List, [], ◌∷◌, ◌++◌, Option, Some, None, Ok, Err, Result, refl, sym, ap, subst, ◌∙◌, inl, inr, arith}
-use Rattle.std.specs.Prelude.{IfOk, IfErr, IsOkAnd}
+use Rattle.std.specs.Prelude.{IsOkAnd}
 use Rattle.std.proofs.lemmas.Bool.{cases_Bool}
 use Rattle.std.proofs.lemmas.List.{append_cancel_right}
 use Rattle.ber_core.specs.declared.fault.BerFault.{BerFault}
@@ -215,16 +215,8 @@ pub no_component : (c : ComponentParts) (whole rest : List ℕ) (f : FaultParts)
 no_component c whole rest f p q = not_refused f (c, rest) (sym (component_again c whole rest p) ∙ component_told (whole ++ rest) f q)
 
 module _ {X : Type 0} (view : X → ComponentParts × List ℕ) (bytes : List ℕ) where
-  pub found : (r : Result X ComponentFault) → Reads view r (component_at bytes) → IfOk r (λ x. (whole : List ℕ) × SpellsComponent (view x).0 whole × (bytes ≡ whole ++ (view x).1))
-  found (Ok x) e = component_takes bytes (view x) e
-  found (Err f) e = tt
-
   pub only : (r : Result X ComponentFault) → Reads view r (component_at bytes) → (c : ComponentParts) (whole rest : List ℕ) → SpellsComponent c whole → bytes ≡ whole ++ rest → IsOkAnd r (λ x. ((view x).0 ≡ c) × ((view x).1 ≡ rest))
   only (Ok x) e c whole rest h is =
       let same = read_is {E = FaultParts} (view x) (c, rest) (sym e ∙ (ap component_at is ∙ component_again c whole rest h)) in
       (ap (λ (r : ComponentParts × List ℕ). r.0) same, ap (λ (r : ComponentParts × List ℕ). r.1) same)
   only (Err f) e c whole rest h is = absurd (not_read (fault_parts f) (c, rest) (sym e ∙ (ap component_at is ∙ component_again c whole rest h)))
-
-  pub fault_is : (r : Result X ComponentFault) → Reads view r (component_at bytes) → IfErr r (λ f. IsComponentFault bytes (fault_parts f))
-  fault_is (Ok x) e = tt
-  fault_is (Err f) e = component_fails bytes (fault_parts f) e

@@ -9,7 +9,7 @@ ghost use Rattle.tcap_component.specs.ComponentReading.{item_at};
 ghost use Rattle.tcap_component.specs.Views.{item_view};
 
 use crate::component::Component;
-use crate::component::read::read_component;
+use crate::component::read::split_component;
 use crate::fault::ComponentFault;
 
 /// The components of a component portion, one after the other; after the first fault it ends, and what
@@ -86,7 +86,7 @@ fn split_item<'a>(bytes: &'a [u8]) -> (Option<Result<Component<'a>, ComponentFau
     if bytes.is_empty() {
         return (None, bytes);
     }
-    match read_component(bytes) {
+    match split_component(bytes) {
         Ok((component, rest)) => (Some(Ok(component)), rest),
         Err(fault) => (Some(Err(fault)), &bytes[bytes.len()..]),
     }
