@@ -64,3 +64,6 @@ returns-clause-err g c =
     let used : false ≡ is_some (entry_at d.invocations.rows c.args.id) = search (rules, c.if-in_use.ensures.value) in
     let same = known ∙ ap (λ (b : Bool). if b then Some Fault.invoke_id_in_use else queue_fault d.standing.queue parts) (sym used) in
     subst (λ (o : Option Fault). IfErr r (λ f. o ≡ Some (fault_view f))) (sym same) err
+
+pub returns-then-not-is_timeout-clause-err : goal.returns-then-not-is_timeout-clause-err
+returns-then-not-is_timeout-clause-err g c = search rules
