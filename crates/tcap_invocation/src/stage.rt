@@ -12,21 +12,24 @@ pub const MAX_MOMENT: u64 = 0x4000_0000_0000_0000;
 /// How far an invocation is (Q.774, Invocation state machine; `Queued` is our own).
 ///
 /// ```text
-///           add                 sent
+///         add, add_free           sent
 ///  (free) -------> Queued(timeout) -------> Sent(deadline)
 ///    ^               |                        |         |
 ///    |  give_up,     |   a Reject of it, a    |         | its last result
 ///    |  close_one,   |   result or an error   |         | or its error,
 ///    |  close_all    |   that the class       |         | if the class
-///    |               |   doesn't have, lapse, |         | has it
+///    |               |   doesn't have,        |         | has it
+///    |               |   expire_first, lapse, |         |
 ///    |               |   lapse_one, give_up,  |         v
 ///    |               |   close_one, close_all |     Waiting(until)
-///    |<--------------+                        |         | free_wait, lapse,
-///    |<---------------------------------------+         | free_due, close_all
-///    |<-------------------------------------------------+
+///    |               |                        |         | free_wait,
+///    |<--------------+                        |         | expire_first,
+///    |<---------------------------------------+         | lapse, free_due,
+///    |<-------------------------------------------------+ close_all
 /// ```
 ///
-/// A Return Result Not Last leaves it `Sent`. The identifier is in use in all three stages.
+/// A Return Result Not Last leaves it `Sent`. The identifier is in use in all three stages. An engine lets time pass by
+/// `expire_first` alone.
 #[derive(Clone, Copy, Debug, PartialEq, Eq)]
 pub enum Stage {
     /// The Invoke waits for the next message; its timeout in milliseconds, 1 to 2^62.
