@@ -88,6 +88,7 @@ impl<A: Allocator + Copy> Dialogue<A> {
     /// invoke identifier waits for a Reject of its result or error, and `idle_ms` how long the dialogue
     /// may stay idle, 0 for no limit: 0 to 2^62 milliseconds (Q.774, Transaction state machine; the
     /// idle limit is our own).
+    // Built in place, in each caller: a dialogue is 192 octets.
     #[inline(always)]
     pub fn fresh(alloc: A, identifier: u32, reject_ms: u64, idle_ms: u64) -> Dialogue<A>
         requires reject { reject_ms ≤ moment_limit }

@@ -104,6 +104,7 @@ impl<'m> Abort<'m> {
 
     /// The message of the Abort, which is short enough for any. The context of one for a wrong version is an
     /// object identifier, as the AARQ has it. It takes no memory.
+    // Inlined, the message is built in its caller, which hands it on to be written.
     #[tactic(auto, using(crate::proofs::AbortLemmas::abort_fits))]
     #[inline(always)]
     pub fn outgoing<'a>(&'a self) -> Outgoing<'a>

@@ -34,6 +34,7 @@ impl<A: Allocator + Copy> Dialogue<A> {
     /// The address to which its messages go: that to which it began, or from which the Begin came that
     /// made it, or the first Continue to it, if it began: its octets, 0 to 255, none before there is one. It
     /// takes no memory (own).
+    // One call of another, and called from other crates.
     #[inline]
     pub fn kept(&self) -> &[u8]
         ensures { result.now ≡ self.now.kept }

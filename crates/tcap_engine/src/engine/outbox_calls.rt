@@ -194,6 +194,7 @@ impl<A: Allocator + Copy> Engine<A> {
     }
 
     /// A request of dialogue handling, into an outbox.
+    // Each named call has its own copy, in which the request is known and the match on it folds away.
     #[inline(always)]
     pub fn request_into(
         &mut self,

@@ -1,5 +1,7 @@
 //! How many octets an indication names.
 
+// Hints to inline: each step of an engine runs through it; docs/PERF.md says what the whole of it inlined gains.
+
 ghost use Rattle.std.specs.Prelude.{◌≡◌, ◌<◌, ◌^◌};
 ghost use Rattle.tcap_primitives.specs.IndicationViews.{body_octets, code_octets, indicated_octets, optional_octets, pdu_octets};
 

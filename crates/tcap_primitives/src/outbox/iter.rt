@@ -1,5 +1,7 @@
 //! The outputs of an outbox, one after the other.
 
+// Hints to inline: a loop over an outbox is most often in another crate, and each output runs through them.
+
 use super::Outbox;
 use super::output_ref::OutputRef;
 use std::alloc::{Allocator, Global};

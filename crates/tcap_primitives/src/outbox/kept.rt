@@ -18,6 +18,7 @@ pub struct KeptOutput<'o> {
 
 impl<A: Allocator + Copy> Outbox<A> {
     /// The output at an index, from 0 on, as it is kept; `None` behind the last. It copies nothing.
+    // Inlined into its callers in other crates: each output that a station hands out runs through it.
     #[inline(always)]
     pub fn kept(&self, index: usize) -> Option<KeptOutput<'_>>
         ensures output { option_map kept_view result ≡ slice_get self.now.outputs index }

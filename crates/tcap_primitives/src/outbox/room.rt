@@ -1,5 +1,7 @@
 //! Room for outputs and their octets.
 
+// Hints to inline: each step of an engine runs through it; docs/PERF.md says what the whole of it inlined gains.
+
 ghost use Rattle.std.specs.Prelude.{◌≡◌, ◌+◌, ◌≤◌, ◌<◌, OnOk, OnErr, vec_len, vec_capacity};
 ghost use Rattle.tcap_primitives.specs.OutboxSpans.{HasRoom, most_octets};
 

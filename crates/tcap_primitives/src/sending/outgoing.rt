@@ -1,5 +1,7 @@
 //! A message that is within the limit: it is written where it goes out.
 
+// Hints to inline: each step of an engine runs through it; docs/PERF.md says what the whole of it inlined gains.
+
 ghost use Rattle.std.specs.Prelude.{◌≡◌, ◌+◌, ◌≤◌, ◌++◌, None, Some, IfSome, is_some, length, not, vec_len, vec_capacity};
 ghost use Rattle.tcap_model.specs.Procedures.Refusals.{passes_message};
 ghost use Rattle.tcap_pdu.specs.FrameWritten.{written_frame};
