@@ -26,7 +26,7 @@ pub(super) struct Station<'h> {
 }
 
 /// Makes the call of an event whose outputs can go to an outbox; nothing for any other.
-fn call<A: Allocator + Copy>(
+pub(super) fn call<A: Allocator + Copy>(
     engine: &mut Engine<A>,
     event: &Event<'_>,
     outbox: &mut Outbox<A>,
