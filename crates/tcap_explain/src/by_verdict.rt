@@ -169,9 +169,13 @@ fn explain_format(bytes: &[u8]) -> Option<Explained>
     }
 }
 
-/// What is not met, by the verdict on the bytes.
-fn explain_verdict(verdict: Verdict, bytes: &[u8]) -> Option<Explained>
-    ensures { result ≡ explained_by verdict bytes.now }
+/// `explain` by the verdict on the bytes, for a caller that knows it: they aren't judged again. It takes no memory.
+#[tactic(auto, unfolding(crate::specs::Explaining::explained_at))]
+pub fn explain_verdict(verdict: Verdict, bytes: &[u8]) -> Option<Explained>
+    // Where it is the verdict on the bytes, what is told is where their fault is.
+    ensures judged { verdict ≡ verdict_of bytes.now → result ≡ explained_at bytes.now }
+    // By any verdict, computed.
+    ensures exact { result ≡ explained_by verdict bytes.now }
 {
     match verdict {
         Verdict::TooLong => Some(Explained {

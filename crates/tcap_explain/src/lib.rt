@@ -18,7 +18,7 @@ mod walk;
 mod way;
 mod words;
 
-pub use by_verdict::explain;
+pub use by_verdict::{explain, explain_verdict};
 pub use contents::Contents;
 pub use fault_text::{add_explained, add_found, add_wanted, explain_text};
 pub use line::{ComponentLine, Explained, Line, ListLine, MessageLine, PduLine, PortionLine, Rule};

@@ -1,4 +1,4 @@
-use Rattle.std.proofs.Common.{◌≡◌, ◌<◌, ◌≤◌, ◌-◌, ◌/◌, false, length, take, sym, arith, rules}
+use Rattle.std.proofs.Common.{◌≡◌, ◌<◌, ◌≤◌, false, length, take, sym, arith, rules}
 use Rattle.tcap_explain.specs.EncodingPlace.{is_open, told_at}
 use Rattle.tcap_explain.proofs.EncodingLemmas.{nothing-open, closed-longer, open_by-is}
 use Rattle.tcap_explain.proofs.encoding.told_place.Goals as goal
@@ -11,9 +11,10 @@ loop-low-preserved c =
     let low = c.loop-low.low in
     let high = c.loop-low.high in
     let lt : low < high = search rules in
-    let middle = high - (high - low) / 2 in
+    let middle = c.next_front-middle.result in
+    let below : low < middle = c.next_front-middle.ensures.0 in
     let closed : is_open (take middle c.args.bytes.now) ≡ false = search rules in
-    (omega (arith, lt), omega (arith, c.loop-low.invariant.1), c.loop-low.invariant.2, λ m above le. closed-longer c.args.bytes.now middle m (omega (arith, above)) closed)
+    (omega (arith, below), omega (arith, c.next_front-middle.ensures.1, c.loop-low.invariant.1), c.loop-low.invariant.2, λ m above le. closed-longer c.args.bytes.now middle m (omega (arith, above)) closed)
 
 pub returns-clause-place : goal.returns-clause-place
 unfolding told_at
