@@ -1,5 +1,5 @@
 -- Octets at which a good message begins or may begin, as more come.
-use Rattle.std.proofs.Common.{◌≡◌, ◌≤◌, ◌<◌, ◌+◌, ◌-◌, ◌++◌, ◌∙◌, ◌∷◌, ◌&&◌, ℕ, zero, suc, Bool, true, false, List, [], length, map, if◌then◌else◌, take, drop, Option, Some, None, refl, sym, ap, arith, append-nil}
+use Rattle.std.proofs.Common.{◌≡◌, ◌≤◌, ◌<◌, ◌+◌, ◌-◌, ◌++◌, ◌∙◌, ◌∷◌, ℕ, zero, suc, Bool, true, false, List, [], length, map, if◌then◌else◌, take, drop, Option, Some, None, refl, sym, ap, arith, append-nil}
 use Rattle.std.proofs.Math.ListN.{drop_of_length-le}
 use Rattle.std.proofs.Math.Seq.{take-length}
 use Rattle.std.proofs.lemmas.List.{drop-append-le, drop-drop, length-append, length-drop}
@@ -10,41 +10,35 @@ use Rattle.ber_core.specs.Stream.{Cut, IsMessage, cut_into, cut_of}
 use Rattle.std.specs.List.{AllByRecursion}
 use Rattle.std.specs.Option.{unwrap_or}
 use Rattle.ber_core.proofs.CallerLemmas.{IsElement-longer}
-use Rattle.tcap_judging.specs.Resync.{first_of, first_place, is_message_tag, may_be_good, may_begin, passed_in}
+use Rattle.tcap_judging.proofs.MessageFronts.{begins_not, goes-longer}
+use Rattle.tcap_judging.specs.Resync.{first_of, first_place, is_found, may_be_good, may_begin, may_go_on, passed_in}
 
 -- ---- what is known of a front stays, as more come
 
-bad-cut : (ends : Bool) (s more : List ℕ) (ms : List (List ℕ)) (f : Option FeedFault) → (cut_of s).messages ≡ ms → (cut_of s).fault ≡ f → may_be_good false ms f ≡ false → may_be_good ends (cut_of (s ++ more)).messages (cut_of (s ++ more)).fault ≡ false
-bad-cut ends s more (m ∷ ms) f p q h =
-    let longer = cut-longer s more ∙ ap (λ l. after_messages l (cut_of ((cut_of s).rest ++ more))) p in
-    ap (λ (c : Cut). may_be_good ends c.messages c.fault) longer ∙ h
-bad-cut ends s more [] None p q h = absurd cc
-bad-cut ends s more [] (Some why) p q h =
-    let longer : cut_of (s ++ more) ≡ cut_into [] ((cut_of s).rest ++ more) (Some why) = cut-faulty s more why q ∙ ap (λ l. cut_into l ((cut_of s).rest ++ more) (Some why)) p in
-    ap (λ (c : Cut). may_be_good ends c.messages c.fault) longer ∙ by ends
+bad-messages : (ends : Bool) (o : ℕ) (os more : List ℕ) (ms : List (List ℕ)) (f : Option FeedFault) → (cut_of (o ∷ os)).messages ≡ ms → (cut_of (o ∷ os)).fault ≡ f → may_be_good false (may_go_on (o ∷ os)) ms f ≡ false → may_begin ends (o ∷ (os ++ more)) ≡ false
+bad-messages ends o os more (m ∷ ms) f p q h =
+    let longer = cut-longer (o ∷ os) more ∙ ap (λ l. after_messages l (cut_of ((cut_of (o ∷ os)).rest ++ more))) p in
+    ap (λ (c : Cut). may_be_good ends (may_go_on (o ∷ (os ++ more))) c.messages c.fault) longer ∙ h
+bad-messages ends o os more [] None p q h = begins_not ends (o ∷ (os ++ more)) (goes-longer o os more h)
+bad-messages ends o os more [] (Some why) p q h =
+    let longer : cut_of (o ∷ (os ++ more)) ≡ cut_into [] ((cut_of (o ∷ os)).rest ++ more) (Some why) = cut-faulty (o ∷ os) more why q ∙ ap (λ l. cut_into l ((cut_of (o ∷ os)).rest ++ more) (Some why)) p in
+    ap (λ (c : Cut). may_be_good ends (may_go_on (o ∷ (os ++ more))) c.messages c.fault) longer ∙ by ends (may_go_on (o ∷ (os ++ more)))
   where
-    by : (ends : Bool) → may_be_good ends [] (Some why) ≡ false
-    by true = refl
-    by false = refl
+    by : (ends goes : Bool) → may_be_good ends goes [] (Some why) ≡ false
+    by true goes = refl
+    by false goes = refl
 
 bad-stays : (ends : Bool) (o : ℕ) (os more : List ℕ) → may_begin false (o ∷ os) ≡ false → may_begin ends (o ∷ (os ++ more)) ≡ false
-bad-stays ends o os more h = by (is_message_tag o) refl h where
-  by : (t : Bool) → is_message_tag o ≡ t → (t && may_be_good false (cut_of (o ∷ os)).messages (cut_of (o ∷ os)).fault) ≡ false → (is_message_tag o && may_be_good ends (cut_of (o ∷ (os ++ more))).messages (cut_of (o ∷ (os ++ more))).fault) ≡ false
-  by false e k = ap (λ (b : Bool). b && may_be_good ends (cut_of (o ∷ (os ++ more))).messages (cut_of (o ∷ (os ++ more))).fault) e
-  by true e k = ap (λ (b : Bool). b && may_be_good ends (cut_of (o ∷ (os ++ more))).messages (cut_of (o ∷ (os ++ more))).fault) e ∙ bad-cut ends (o ∷ os) more _ _ refl refl k
+bad-stays ends o os more h = bad-messages ends o os more _ _ refl refl h
 
-good-cut : (ends : Bool) (s more : List ℕ) (ms : List (List ℕ)) (f : Option FeedFault) → (cut_of s).messages ≡ ms → may_be_good true ms f ≡ true → may_be_good ends (cut_of (s ++ more)).messages (cut_of (s ++ more)).fault ≡ true
-good-cut ends s more [] f p h = absurd cc
-good-cut ends s more (m ∷ ms) f p h =
+good-messages : (ends : Bool) (s more : List ℕ) (ms : List (List ℕ)) (f : Option FeedFault) → (cut_of s).messages ≡ ms → may_be_good true (may_go_on s) ms f ≡ true → may_begin ends (s ++ more) ≡ true
+good-messages ends s more [] f p h = absurd cc
+good-messages ends s more (m ∷ ms) f p h =
     let longer = cut-longer s more ∙ ap (λ l. after_messages l (cut_of ((cut_of s).rest ++ more))) p in
-    ap (λ (c : Cut). may_be_good ends c.messages c.fault) longer ∙ h
+    ap (λ (c : Cut). may_be_good ends (may_go_on (s ++ more)) c.messages c.fault) longer ∙ h
 
 pub good-stays : (ends : Bool) (s more : List ℕ) → may_begin true s ≡ true → may_begin ends (s ++ more) ≡ true
-good-stays ends [] more h = absurd cc
-good-stays ends (o ∷ os) more h = by (is_message_tag o) refl h where
-  by : (t : Bool) → is_message_tag o ≡ t → (t && may_be_good true (cut_of (o ∷ os)).messages (cut_of (o ∷ os)).fault) ≡ true → (is_message_tag o && may_be_good ends (cut_of (o ∷ (os ++ more))).messages (cut_of (o ∷ (os ++ more))).fault) ≡ true
-  by false e k = absurd cc
-  by true e k = ap (λ (b : Bool). b && may_be_good ends (cut_of (o ∷ (os ++ more))).messages (cut_of (o ∷ (os ++ more))).fault) e ∙ good-cut ends (o ∷ os) more _ _ refl k
+good-stays ends s more h = good-messages ends s more _ _ refl h
 
 -- ---- first places
 
@@ -128,3 +122,13 @@ place-next holds (o ∷ os) (suc n) low h =
 
 pub place-end : (holds : List ℕ → Bool) (octets : List ℕ) (n : ℕ) → length octets ≤ n → first_place holds (drop n octets) ≡ 0
 place-end holds octets n low = ap (first_place holds) (drop_of_length-le octets low)
+
+-- behind all octets nothing begins
+none-begins : may_begin true [] ≡ false
+none-begins = begins_not true [] refl
+
+pub found-end : (ends : Bool) (octets : List ℕ) (n : ℕ) → length octets ≤ n → ends ≡ is_found ends (drop n octets)
+found-end ends octets n all = by ends where
+  by : (ends : Bool) → ends ≡ is_found ends (drop n octets)
+  by true = refl
+  by false = sym (ap (may_begin true) (drop_of_length-le octets all) ∙ none-begins)

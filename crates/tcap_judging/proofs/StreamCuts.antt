@@ -1,6 +1,6 @@
 -- Messages that begin octets, one after the other.
 use Rattle.std.proofs.Common.{◌≡◌, ◌≤◌, ◌<◌, ◌+◌, ◌++◌, ◌∙◌, ◌∷◌, ◌&&◌, ℕ, Bool, true, List, [], length, take, drop, Option, None, refl, sym, ap, arith, append_assoc, append-nil}
-use Rattle.std.proofs.lemmas.List.{drop_at, length-append, length-take, take-append-drop, take_at}
+use Rattle.std.proofs.lemmas.List.{drop_at, length-append, length-take, take-append-drop}
 use Rattle.ber_core.proofs.CallerLemmas.{IsElement-longer}
 use Rattle.ber_core.proofs.CutGrammar.{after_messages, cut-message}
 use Rattle.ber_core.specs.declared.fault.FeedFault.{FeedFault}
@@ -11,10 +11,11 @@ use Rattle.tcap_judging.specs.Entry.{broken_entries, message, message_entries, o
 use Rattle.tcap_judging.specs.EntryText.{are_good, entries_text, entry_text, is_good_entry}
 use Rattle.tcap_judging.specs.StreamSteps.{AddsMessages, AddsOctets}
 use Rattle.tcap_judging.specs.Form.{Form}
+use Rattle.tcap_words.specs.Verdict.{message_limit}
 
 -- an element within the limit is the first message
 pub message-first : (octets : List ℕ) (e : Parts) (rest : List ℕ) → IsElement depth_limit e → take 65535 octets ≡ e.whole ++ rest
-    → (0 < length e.whole) × (length e.whole ≤ length octets) × (cut_of octets ≡ with_message (take (length e.whole) octets) (cut_of (drop (length e.whole) octets)))
+    → (0 < length e.whole) × (length e.whole ≤ length octets) × (length e.whole ≤ message_limit) × IsElement depth_limit e × (cut_of octets ≡ with_message e.whole (cut_of (drop (length e.whole) octets)))
 message-first octets e rest h is =
     let more = rest ++ drop 65535 octets in
     let parts : octets ≡ e.whole ++ more = sym (take-append-drop 65535 octets) ∙ ap (λ w. w ++ drop 65535 octets) is ∙ append_assoc e.whole rest (drop 65535 octets) in
@@ -22,9 +23,8 @@ message-first octets e rest h is =
     let sizes : length (take 65535 octets) ≡ length e.whole + length rest = ap length is ∙ length-append e.whole rest in
     let small : length e.whole ≤ 65535 = omega (arith, sizes, length-take 65535 octets) in
     let within : length e.whole ≤ length octets = omega (arith, sizes, length-take 65535 octets) in
-    let whole : take (length e.whole) octets ≡ e.whole = ap (take (length e.whole)) parts ∙ take_at e.whole more (length e.whole) refl in
     let behind : drop (length e.whole) octets ≡ more = ap (drop (length e.whole)) parts ∙ drop_at e.whole more (length e.whole) refl in
-    (omega (arith, filled), within, ap cut_of parts ∙ cut-message e more (h, small) ∙ ap (λ w. with_message w (cut_of more)) (sym whole) ∙ ap (λ w. with_message (take (length e.whole) octets) (cut_of w)) (sym behind))
+    (omega (arith, filled), within, small, h, ap cut_of parts ∙ cut-message e more (h, small) ∙ ap (λ w. with_message e.whole (cut_of w)) (sym behind))
 
 -- ---- messages with their offsets
 

@@ -1,4 +1,5 @@
 pub mod BadLine
+pub mod ByElement
 pub mod CodeText
 pub mod Command
 pub mod CommandLine

@@ -1,6 +1,8 @@
 -- A stream that goes on behind its faults, also within a faulty message, at the next octet that begins a good message.
-use Rattle.std.specs.Prelude.{◌≡◌, ◌==◌, ◌||◌, ◌&&◌, ◌<◌, ◌≤◌, ℕ, suc, ◌+◌, ◌-◌, Bool, true, false, List, [], ◌∷◌, ◌++◌, length, take, drop, Option, Some, None, nat_lt, not, if◌then◌else◌}
+use Rattle.std.specs.Prelude.{◌≡◌, ◌==◌, ◌||◌, ◌&&◌, ◌<◌, ◌≤◌, ℕ, suc, ◌+◌, ◌-◌, Bool, true, false, List, [], ◌∷◌, ◌++◌, length, take, drop, Option, Some, None, Result, Ok, Err, nat_lt, not, if◌then◌else◌}
+use Rattle.ber_core.specs.declared.fault.BerFault.{BerFault}
 use Rattle.ber_core.specs.declared.fault.FeedFault.{FeedFault}
+use Rattle.ber_core.specs.HeadReading.{head_at}
 use Rattle.ber_core.specs.Stream.{cut_into, cut_of}
 use Rattle.tcap_words.specs.Show.{show_is_good}
 use Rattle.tcap_judging.specs.Entry.{Entry, broken, judged_by, message, passed}
@@ -13,18 +15,36 @@ use Rattle.tcap_judging.specs.declared.place.Place.TheVariants.{Reading, Searchi
 abbrev pub is_message_tag : ℕ → Bool
 is_message_tag tag = (tag == 0x61) || ((tag == 0x62) || ((tag == 0x64) || ((tag == 0x65) || (tag == 0x67))))
 
--- The octets begin with the tag of a message (own).
-abbrev pub has_message_tag : List ℕ → Bool
-has_message_tag [] = false
-has_message_tag (tag ∷ octets) = is_message_tag tag
+-- The contents of a message with this tag may begin with this octet: the tag of its first transaction identifier, in a
+-- Unidirectional that of a portion (Q.773, Structure of TC messages).
+abbrev pub may_lead : ℕ → ℕ → Bool
+may_lead tag first =
+    if tag == 0x61 then (first == 0x6b) || (first == 0x6c)
+    else if (tag == 0x62) || (tag == 0x65) then first == 0x48
+    else first == 0x49
 
--- The first message of a stream is good; where more octets may follow, it may also be that none is whole yet and no
--- fault stands (own).
-abbrev pub may_be_good : (ends : Bool) → List (List ℕ) → Option FeedFault → Bool
-may_be_good ends (m ∷ messages) fault = show_is_good m
-may_be_good true [] fault = false
-may_be_good false [] None = true
-may_be_good false [] (Some why) = false
+-- These may be contents of a message with this tag, as far as they have come (own).
+abbrev pub may_hold : ℕ → List ℕ → Bool
+may_hold tag [] = true
+may_hold tag (first ∷ octets) = may_lead tag first
+
+-- What stands behind the head that was read, if one was, may be contents of a message with this tag (own).
+abbrev pub may_hold_behind : ℕ → Result (List ℕ × Bool × Option ℕ × List ℕ) BerFault → Bool
+may_hold_behind tag (Ok head) = may_hold tag head.3
+may_hold_behind tag (Err why) = true
+
+-- A good message may go on so, as far as it has come: by its tag, and by the first octet of its contents (own).
+abbrev pub may_go_on : List ℕ → Bool
+may_go_on [] = false
+may_go_on (tag ∷ octets) = is_message_tag tag && may_hold_behind tag (head_at (tag ∷ octets))
+
+-- The first message of a stream is good; where more octets may follow, it may also be that none is whole yet, no fault
+-- stands, and a good one may go on so (own).
+abbrev pub may_be_good : (ends : Bool) → (goes_on : Bool) → List (List ℕ) → Option FeedFault → Bool
+may_be_good ends goes_on (m ∷ messages) fault = show_is_good m
+may_be_good true goes_on [] fault = false
+may_be_good false goes_on [] None = goes_on
+may_be_good false goes_on [] (Some why) = false
 
 -- The first of some messages, if there is one (own).
 abbrev pub first_of : List (List ℕ) → Option (List ℕ)
@@ -33,7 +53,7 @@ first_of (m ∷ messages) = Some m
 
 -- A good message begins the octets; where more may follow, also: may begin them (own).
 abbrev pub may_begin : (ends : Bool) → List ℕ → Bool
-may_begin ends octets = has_message_tag octets && may_be_good ends (cut_of octets).messages (cut_of octets).fault
+may_begin ends octets = may_be_good ends (may_go_on octets) (cut_of octets).messages (cut_of octets).fault
 
 -- A good message begins octets with this front; where more may follow, also: may begin them (own).
 abbrev pub begins : (ends : Bool) → Front → Bool

@@ -75,6 +75,11 @@ has_more (Reading offset) octets = not (length octets == 0)
 has_more (Searching first count) octets = true
 has_more (Within first count left) octets = nat_lt left (length octets) || nat_lt (passed_in true octets) left
 
+-- What the end of the stream tells behind the later place it tells behind this one; and it has no more to tell (own).
+pub record StandsBehind (place : Place) (octets : List ℕ) (later : Place) (rest : List ℕ) : Type 0 where
+  pub tells : (entries : List Entry) → Tells true later rest entries → Tells true place octets entries
+  pub no_more : has_more later rest ≡ true → has_more place octets ≡ true
+
 -- The text of all that the end of the stream tells was written, and this tells whether the stream is good, where so
 -- much of what stands before is known (own).
 pub record WritesEnd (form : Form) (place : Place) (octets : List ℕ) (old new : Option (List ℕ)) (good ends : Bool) :

@@ -43,7 +43,8 @@ fn add_named<A: Allocator + Copy>(
     key: &str,
 ) -> Result<(), OutOfMemory>
     ensures { OnOk result (string_bytes text.new ≡ string_bytes text.old
-        ++ (key.now ++ (codes "\"" ++ json_context_name (name_for NameKind.Context key.now (map named_view names.now))))) }
+        ++ (key.now ++ (codes "\""
+        ++ json_context_name (name_for NameKind.Context key.now (map named_view names.now))))) }
 {
     text.push_str(key)?;
     text.push_str("\"")?;

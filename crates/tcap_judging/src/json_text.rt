@@ -1,8 +1,7 @@
 //! What is printed in JSON.
 
-ghost use Rattle.std.specs.Prelude.{◌≡◌, ◌++◌, IfOk, OnOk, Some, string_bytes};
+ghost use Rattle.std.specs.Prelude.{◌≡◌, ◌++◌, OnOk, Some, string_bytes};
 ghost use Rattle.std.specs.Fmt.{decimal};
-ghost use Rattle.tcap_words.specs.Show.{show_is_good};
 ghost use Rattle.tcap_words.specs.Verdict.{verdict_words};
 ghost use Rattle.tcap_judging.specs.JsonText.{json_label, json_verdict, json_place, json_rule, json_fault, json_named, json_text, json_bad_text, json_passed_text, json_unread_text};
 ghost use Rattle.tcap_judging.specs.LineViews.{label_view};
@@ -10,13 +9,14 @@ ghost use Rattle.tcap_judging.specs.NameViews.{names_view};
 
 use crate::bad_line::{BadLine, add_bad};
 use crate::json_names::add_json_names;
+use crate::judged::Judged;
 use crate::label::Label;
 use crate::message_text::add_verdict;
 use crate::name_list::Named;
 use ber_core::OutOfMemory;
 use std::alloc::Allocator;
-use tcap_explain::{Explained, add_found, add_wanted, explain};
-use tcap_words::{Verdict, add_decimal, verdict_on};
+use tcap_explain::{Explained, add_found, add_wanted};
+use tcap_words::{Verdict, add_decimal};
 
 /// Adds a member's name and a number.
 fn add_number<A: Allocator + Copy>(
@@ -158,24 +158,21 @@ fn add_named<A: Allocator + Copy>(
     }
 }
 
-/// Adds the object of a message, and tells whether it is good.
+/// Adds the object of a message.
 pub(crate) fn add_object<A: Allocator + Copy>(
     text: &mut String<A>,
     names: Option<&[Named<'_>]>,
     called: Label<'_>,
-    octets: &[u8],
-) -> Result<bool, OutOfMemory>
-    ensures text { OnOk result (string_bytes text.new ≡ string_bytes text.old
-        ++ json_text (names_view names.entry) (label_view called.entry) octets.now) }
-    ensures good { IfOk result (λ good. good ≡ show_is_good octets.now) }
+    judged: &Judged<'_>,
+) -> Result<(), OutOfMemory>
+    ensures { OnOk result (string_bytes text.new ≡ string_bytes text.old
+        ++ json_text (names_view names.entry) (label_view called.entry) judged.now.octets.now) }
 {
-    let verdict = verdict_on(octets);
     add_label(text, called)?;
-    add_verdict_member(text, verdict)?;
-    add_fault(text, octets, explain(octets))?;
-    add_named(text, names, octets)?;
-    text.push_str("}\n")?;
-    Ok(verdict.is_good())
+    add_verdict_member(text, judged.verdict)?;
+    add_fault(text, judged.octets, judged.found)?;
+    add_named(text, names, judged.octets)?;
+    Ok(text.push_str("}\n")?)
 }
 
 /// Adds the object of a line that is neither blank nor a message.

@@ -7,6 +7,7 @@
 #![tactic(auto)]
 
 mod bad_line;
+mod by_element;
 mod code_text;
 mod command;
 mod cut;
@@ -16,6 +17,8 @@ mod front;
 mod help_text;
 mod json_names;
 mod json_text;
+mod judged;
+mod judging;
 mod label;
 mod line_parts;
 mod line_run;

@@ -12,6 +12,7 @@ ghost use Rattle.tcap_judging.specs.NameViews.{form_view};
 use crate::bad_line::{BadLine, add_bad};
 use crate::form::{Form, Layout};
 use crate::json_text::add_bad_object;
+use crate::judging::judge;
 use crate::label::{Label, label_of};
 use crate::line_parts::{LineParts, is_digit, parts_within};
 use crate::message_text::add_message;
@@ -80,7 +81,7 @@ fn add_hex_line<A: Allocator + Copy>(
     ensures good { IfOk result (λ good. good ≡ is_good_hex (octets_of hex.now)) }
 {
     match octets_of(alloc, hex)? {
-        Some(octets) => add_message(form, text, called, octets.as_slice()),
+        Some(octets) => add_message(form, text, called, &judge(octets.as_slice())),
         None => {
             add_bad_line(form.layout, text, number, BadLine::OddDigits)?;
             Ok(false)

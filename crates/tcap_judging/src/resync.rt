@@ -1,22 +1,25 @@
 //! A stream that goes on behind its faults.
 
-ghost use Rattle.std.specs.Prelude.{◌≡◌, ◌<◌, ◌≤◌, ◌+◌, ◌*◌, ◌^◌, ◌++◌, Bool, Some, [], length, true, false, IfOk, OnOk, string_bytes};
+ghost use Rattle.std.specs.Prelude.{◌≡◌, ◌<◌, ◌≤◌, ◌+◌, ◌*◌, ◌^◌, ◌++◌, Bool, Some, [], length, nat_lt, true, false, if◌then◌else◌, IfOk, OnOk, string_bytes};
 ghost use Rattle.ber_core.specs.Stream.{cut_into, cut_of};
 ghost use Rattle.tcap_judging.specs.EntryText.{passed_text, plain_passed_text};
 ghost use Rattle.tcap_judging.specs.Resync.{first_of, is_known, judged_of};
 ghost use Rattle.tcap_judging.specs.ResyncSteps.{AddsSteps, left_at, offset_at};
 ghost use Rattle.tcap_judging.specs.NameViews.{form_view};
+ghost use Rattle.tcap_words.specs.Verdict.{message_limit, verdict_of};
 
+use crate::by_element::verdict_on_element;
 use crate::form::{Form, Layout};
 use crate::json_text::add_passed_object;
+use crate::judging::judged_so;
 use crate::label::Label;
 use crate::message_text::add_message;
 use crate::place::Place;
 use crate::search::pass_over;
-use crate::stream_cut::{fault_of, first_message, front, judged_by};
+use crate::stream_cut::{fault_of, first_element, front, judged_by};
 use ber_core::{FeedFault, MAX_LENGTH, OutOfMemory};
 use std::alloc::Allocator;
-use tcap_words::add_decimal;
+use tcap_words::{Verdict, add_decimal};
 
 /// Where a run stands after a step, the octets from there on, whether all that was told is good, and whether no more
 /// can be told.
@@ -83,17 +86,20 @@ fn add_first<'a, A: Allocator + Copy>(
     text: &mut String<A>,
     offset: u64,
     message: &[u8],
+    verdict: Verdict,
     octets: &'a [u8],
 ) -> Result<Stepped<'a>, OutOfMemory>
     requires room { offset + length octets.now < 2 ^ 64 }
     requires sizes { (0 < length message.now) × (length message.now ≤ length octets.now) }
+    requires verdict { verdict ≡ verdict_of message.now }
     requires is_first { first_of (cut_of octets.now).messages ≡ Some message.now }
     ensures adds { (ends : Bool) → IfOk result (λ s. AddsSteps (form_view form.entry) ends (Place.Reading offset)
         octets.now s.place s.rest.now s.is_over (string_bytes text.old) (string_bytes text.new) s.good) }
     ensures within { IfOk result (λ s. offset_at s.place + length s.rest.now ≡ offset + length octets.now) }
     ensures less { IfOk result (λ s. s.is_over ≡ false → left_at s.place (length s.rest.now) < 2 * length octets.now) }
 {
-    let good = add_message(form, text, Label::Offset(offset), message)?;
+    let judged = judged_so(message, verdict);
+    let good = add_message(form, text, Label::Offset(offset), &judged)?;
     if good {
         return Ok(Stepped {
             place: Place::Reading(offset + message.len() as u64),
@@ -108,6 +114,17 @@ fn add_first<'a, A: Allocator + Copy>(
         good: false,
         is_over: false,
     })
+}
+
+/// The verdict on octets that begin with no message.
+fn unread_verdict(octets: &[u8]) -> Verdict
+    ensures { result ≡ (if nat_lt message_limit (length octets.now) then Verdict.TooLong else Verdict.BadlyFormatted) }
+{
+    if octets.len() > MAX_LENGTH {
+        Verdict::TooLong
+    } else {
+        Verdict::BadlyFormatted
+    }
 }
 
 /// Where more is known of octets at which no message begins, tells that.
@@ -133,7 +150,9 @@ fn add_none<'a, A: Allocator + Copy>(
             is_over: true,
         });
     }
-    let good = add_message(form, text, Label::Offset(offset), judged_of(octets, fault))?;
+    let told = judged_of(octets, fault);
+    let judged = judged_so(told, unread_verdict(told));
+    let good = add_message(form, text, Label::Offset(offset), &judged)?;
     Ok(Stepped {
         place: Place::Searching(offset, 1),
         rest: &octets[1..],
@@ -156,8 +175,15 @@ fn read_on<'a, A: Allocator + Copy>(
     ensures within { IfOk result (λ s. offset_at s.place + length s.rest.now ≡ offset + length octets.now) }
     ensures less { IfOk result (λ s. s.is_over ≡ false → left_at s.place (length s.rest.now) < 2 * length octets.now) }
 {
-    match first_message(octets) {
-        Ok((message, _)) => add_first(form, text, offset, message, octets),
+    match first_element(octets) {
+        Ok(element) => add_first(
+            form,
+            text,
+            offset,
+            element.whole,
+            verdict_on_element(&element),
+            octets,
+        ),
         Err(why) => add_none(form, text, ends, offset, octets, fault_of(why, octets)),
     }
 }

@@ -2,7 +2,7 @@
 
 ghost use Rattle.std.specs.Prelude.{◌≡◌, ◌<◌, ◌+◌, ◌^◌, ◌++◌, ◌||◌, nat_lt, length, true, false, MatchResult, IfOk, OnOk, string_bytes};
 ghost use Rattle.tcap_judging.specs.Resync.{ResyncTells, passed_in};
-ghost use Rattle.tcap_judging.specs.ResyncSteps.{AddsSteps, WritesSteps, AreStepsUntaken, WritesEnd, IsEndUntold, has_more, offset_at};
+ghost use Rattle.tcap_judging.specs.ResyncSteps.{AddsSteps, WritesSteps, AreStepsUntaken, WritesEnd, IsEndUntold, StandsBehind, has_more, offset_at};
 ghost use Rattle.tcap_judging.specs.Run.{IsJudged, IsUnjudged};
 ghost use Rattle.tcap_judging.specs.NameViews.{form_view};
 
@@ -73,6 +73,23 @@ fn write_more<A: Allocator + Copy, W: Write>(
     Ok(good)
 }
 
+/// Where a stream ends within a faulty message: behind those of its octets at which no good one begins. So what follows
+/// doesn't search them again.
+fn pass_over_end(place: Place, octets: &[u8]) -> (Place, &[u8])
+    requires { offset_at place + length octets.now < 2 ^ 64 }
+    ensures behind { StandsBehind place octets.now result.0 result.1.now }
+    ensures within { offset_at result.0 + length result.1.now ≡ offset_at place + length octets.now }
+{
+    match place {
+        Place::Within(first, count, left) => {
+            let passed = pass_over(true, octets, left).count;
+            let later = Place::Within(first, count + passed as u64, left - passed);
+            (later, &octets[passed..])
+        }
+        Place::Reading(_) | Place::Searching(_, _) => (place, octets),
+    }
+}
+
 /// Whether a stream that ends with these octets, of which so many belong to a faulty message, has more to tell.
 fn has_more_within(octets: &[u8], left: usize) -> bool
     ensures { result ≡ (nat_lt left (length octets.now) || nat_lt (passed_in true octets.now) left) }
@@ -80,15 +97,41 @@ fn has_more_within(octets: &[u8], left: usize) -> bool
     left < octets.len() || pass_over(true, octets, left).count < left
 }
 
-/// Whether a stream that ends here has more to tell.
-fn has_more<A: Allocator + Copy>(left: &Left<A>) -> bool
-    ensures { result ≡ has_more left.now.place left.now.kept.items }
+/// Whether a stream that ends with these octets behind a place has more to tell.
+fn has_more(place: Place, octets: &[u8]) -> bool
+    ensures { result ≡ has_more place octets.now }
 {
-    match left.place {
-        Place::Reading(_) => !left.kept.is_empty(),
+    match place {
+        Place::Reading(_) => !octets.is_empty(),
         Place::Searching(_, _) => true,
-        Place::Within(_, _, few) => has_more_within(left.kept.as_slice(), few),
+        Place::Within(_, _, left) => has_more_within(octets, left),
     }
+}
+
+/// Writes what the end of the stream makes known behind a place. Tells whether the stream is good, where so much of
+/// what stands before is known.
+fn end_at<A: Allocator + Copy, W: Write>(
+    alloc: A,
+    form: Form<'_>,
+    place: Place,
+    octets: &[u8],
+    good: bool,
+    writer: &mut W,
+) -> Result<bool, JudgingFault>
+    requires { offset_at place + length octets.now < 2 ^ 64 }
+    ensures { MatchResult result
+        (λ ends. WritesEnd (form_view form.entry) place octets.now (W.contents writer.old) (W.contents writer.new)
+        good ends)
+        (λ fault. IsEndUntold (form_view form.entry) place octets.now (W.contents writer.old) (W.contents writer.new)
+        fault) }
+{
+    if !has_more(place, octets) {
+        return Ok(good);
+    }
+    let mut text = String::new(alloc);
+    let done = advance(form, &mut text, true, place, octets)?;
+    write_text(writer, text.as_bytes())?;
+    Ok(good & done.good)
 }
 
 /// Writes what the end of the stream makes known. Tells whether the stream is good, where so much of what stands before
@@ -107,13 +150,8 @@ fn end_more<A: Allocator + Copy, W: Write>(
         (λ fault. IsEndUntold (form_view form.entry) left.now.place left.now.kept.items (W.contents writer.old)
         (W.contents writer.new) fault) }
 {
-    if !has_more(left) {
-        return Ok(good);
-    }
-    let mut text = String::new(alloc);
-    let done = advance(form, &mut text, true, left.place, left.kept.as_slice())?;
-    write_text(writer, text.as_bytes())?;
-    Ok(good & done.good)
+    let (place, octets) = pass_over_end(left.place, left.kept.as_slice());
+    end_at(alloc, form, place, octets, good, writer)
 }
 
 /// Judges the messages of the stream that the reader gives, as `judge_stream` does, and goes on behind a fault.

@@ -1,12 +1,15 @@
 //! The next octet of a stream at which a good message begins.
 
 ghost use Rattle.std.specs.Prelude.{◌≡◌, ◌≤◌, ◌<◌, Bool, true, length, min, drop};
-ghost use Rattle.tcap_judging.specs.Resync.{begins, has_message_tag, may_be_good, may_begin, passed_in, is_found};
+ghost use Rattle.ber_core.specs.HeadReading.{head_at};
 ghost use Rattle.ber_core.specs.Stream.{cut_of};
+ghost use Rattle.tcap_judging.specs.Resync.{begins, is_message_tag, may_be_good, may_begin, may_go_on, may_hold, may_hold_behind, may_lead, passed_in, is_found};
 
+use crate::by_element::is_good_element;
 use crate::front::Front;
-use crate::stream_cut::{fault_of, first_message};
-use tcap_words::verdict_on;
+use crate::stream_cut::{fault_of, first_element};
+use ber_core::read_head;
+use tcap_pdu::tag;
 
 /// Where a search stands: how many octets are passed over, and whether it is over there.
 #[derive(Clone, Copy)]
@@ -15,24 +18,66 @@ pub(crate) struct Passed {
     pub(crate) is_found: bool,
 }
 
-/// Whether the octets begin with the tag of a message.
-fn has_message_tag(octets: &[u8]) -> bool
-    ensures { result ≡ has_message_tag octets.now }
+/// Whether the contents of a message with this tag may begin with this octet.
+fn may_lead(tag: u8, first: u8) -> bool
+    ensures { result ≡ may_lead tag first }
 {
-    match octets.first() {
-        Some(&tag) => tag == 0x61 || tag == 0x62 || tag == 0x64 || tag == 0x65 || tag == 0x67,
-        None => false,
+    match tag {
+        tag::UNIDIRECTIONAL => first == tag::DIALOGUE_PORTION || first == tag::COMPONENT_PORTION,
+        tag::BEGIN | tag::CONTINUE => first == tag::ORIGIN,
+        _ => first == tag::DESTINATION,
     }
 }
 
-/// What begins octets that have the tag of a message.
-fn what_begins_tagged(octets: &[u8]) -> Front
-    ensures { (ends : Bool) → begins ends result
-        ≡ may_be_good ends (cut_of octets.now).messages (cut_of octets.now).fault }
+/// Whether a tag of one octet is that of a message.
+fn is_message_tag(tag: u8) -> bool
+    ensures { result ≡ is_message_tag tag }
 {
-    match first_message(octets) {
-        Ok((message, _)) => {
-            if verdict_on(message).is_good() {
+    match tag {
+        tag::UNIDIRECTIONAL | tag::BEGIN | tag::END | tag::CONTINUE | tag::ABORT => true,
+        _ => false,
+    }
+}
+
+/// Whether what stands behind a head may be contents of a message with this tag, as far as it has come.
+fn may_hold(tag: u8, octets: &[u8]) -> bool
+    ensures { result ≡ may_hold tag octets.now }
+{
+    match octets {
+        [first, ..] => may_lead(tag, *first),
+        [] => true,
+    }
+}
+
+/// The same of what stands behind the head of the octets, if one does.
+fn may_hold_behind(tag: u8, octets: &[u8]) -> bool
+    ensures { result ≡ may_hold_behind tag (head_at octets.now) }
+{
+    match read_head(octets) {
+        Ok(head) => may_hold(tag, head.rest),
+        Err(_) => true,
+    }
+}
+
+/// Whether a good message may go on so. This is seen before its end is looked for, as that takes as long as there are
+/// elements in it.
+fn may_go_on(octets: &[u8]) -> bool
+    ensures { result ≡ may_go_on octets.now }
+{
+    match octets {
+        [tag, ..] => is_message_tag(*tag) && may_hold_behind(*tag, octets),
+        [] => false,
+    }
+}
+
+/// What begins octets as which a good message may go on.
+fn what_begins_well(octets: &[u8]) -> Front
+    ensures { (ends : Bool) → begins ends result
+        ≡ may_be_good ends true (cut_of octets.now).messages (cut_of octets.now).fault }
+{
+    match first_element(octets) {
+        Ok(element) => {
+            if is_good_element(&element) {
                 Front::Good
             } else {
                 Front::Other
@@ -49,11 +94,12 @@ fn what_begins_tagged(octets: &[u8]) -> Front
 }
 
 /// What begins the octets.
+#[tactic(auto, using(crate::proofs::MessageFronts::begins_not))]
 fn what_begins(octets: &[u8]) -> Front
     ensures { (ends : Bool) → begins ends result ≡ may_begin ends octets.now }
 {
-    if has_message_tag(octets) {
-        what_begins_tagged(octets)
+    if may_go_on(octets) {
+        what_begins_well(octets)
     } else {
         Front::Other
     }

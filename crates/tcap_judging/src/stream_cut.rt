@@ -1,17 +1,22 @@
 //! The messages of a stream that comes in pieces.
 
 ghost use Rattle.std.specs.Prelude.{◌≡◌, ◌<◌, ◌≤◌, ◌+◌, ◌^◌, ◌++◌, List, [], ℕ, length, take, drop, IfOk, MatchResult, OnOk, None, string_bytes};
+ghost use Rattle.ber_core.specs.Element.{IsElement, depth_limit};
 ghost use Rattle.ber_core.specs.Stream.{cut_into, cut_of, rest_fault, with_message};
+ghost use Rattle.ber_core.specs.Views.{parts};
+ghost use Rattle.tcap_words.specs.Verdict.{message_limit};
 ghost use Rattle.tcap_judging.specs.Entry.{broken_entries, judged_by};
 ghost use Rattle.tcap_judging.specs.EntryText.{entries_text, are_good, plain_unread_text, unread_text};
 ghost use Rattle.tcap_judging.specs.StreamSteps.{AddsMessages, AddsOctets};
 ghost use Rattle.tcap_judging.specs.NameViews.{form_view};
 
+use crate::by_element::verdict_on_element;
 use crate::form::{Form, Layout};
 use crate::json_text::add_unread_object;
+use crate::judging::{judge, judged_so};
 use crate::label::Label;
 use crate::message_text::add_message;
-use ber_core::{BerFault, FeedFault, MAX_LENGTH, OutOfMemory, read_element};
+use ber_core::{BerFault, Element, FeedFault, MAX_LENGTH, OutOfMemory, read_element};
 use std::alloc::Allocator;
 use tcap_words::add_decimal;
 
@@ -59,28 +64,16 @@ pub(crate) fn fault_of(why: BerFault, rest: &[u8]) -> Option<FeedFault>
     }
 }
 
-/// How many octets the first message has, or why there is none.
-fn first_len(octets: &[u8]) -> Result<usize, BerFault>
+/// The element that the first message is, or why there is none.
+pub(crate) fn first_element(octets: &[u8]) -> Result<Element<'_>, BerFault>
     ensures { MatchResult result
-        (λ count. (0 < count) × (count ≤ length octets.now)
-        × (cut_of octets.now ≡ with_message (take count octets.now) (cut_of (drop count octets.now))))
+        (λ e. (0 < length e.whole.now) × (length e.whole.now ≤ length octets.now)
+        × (length e.whole.now ≤ message_limit) × IsElement depth_limit (parts e)
+        × (cut_of octets.now ≡ with_message e.whole.now (cut_of (drop (length e.whole.now) octets.now))))
         (λ why. cut_of octets.now ≡ cut_into [] octets.now (rest_fault why octets.now)) }
 {
     match read_element(front(octets, MAX_LENGTH)) {
-        Ok((element, _)) => Ok(element.whole.len()),
-        Err(why) => Err(why),
-    }
-}
-
-/// The first message, and what follows it, or why there is none.
-pub(crate) fn first_message(octets: &[u8]) -> Result<(&[u8], &[u8]), BerFault>
-    ensures { MatchResult result
-        (λ r. (0 < length r.0.now) × (length r.0.now + length r.1.now ≡ length octets.now)
-        × (cut_of octets.now ≡ with_message r.0.now (cut_of r.1.now)))
-        (λ why. cut_of octets.now ≡ cut_into [] octets.now (rest_fault why octets.now)) }
-{
-    match first_len(octets) {
-        Ok(count) => Ok(octets.split_at(count)),
+        Ok((element, _)) => Ok(element),
         Err(why) => Err(why),
     }
 }
@@ -101,8 +94,8 @@ pub(crate) fn add_messages<'a, A: Allocator + Copy>(
     let mut rest = octets;
     let mut place = offset;
     while !rest.is_empty() {
-        let (message, after) = match first_message(rest) {
-            Ok(parts) => parts,
+        let element = match first_element(rest) {
+            Ok(element) => element,
             Err(why) => {
                 return Ok(Cut {
                     rest,
@@ -112,9 +105,11 @@ pub(crate) fn add_messages<'a, A: Allocator + Copy>(
                 });
             }
         };
-        good &= add_message(form, text, Label::Offset(place), message)?;
+        let message = element.whole;
+        let judged = judged_so(message, verdict_on_element(&element));
+        good &= add_message(form, text, Label::Offset(place), &judged)?;
         place += message.len() as u64;
-        rest = after;
+        rest = &rest[message.len()..];
     }
     Ok(Cut {
         rest,
@@ -175,7 +170,7 @@ fn add_broken<A: Allocator + Copy>(
     match fault {
         Some(why) => {
             let judged = front(rest, judged_by(why));
-            add_message(form, text, Label::Offset(offset), judged)?;
+            add_message(form, text, Label::Offset(offset), &judge(judged))?;
             add_unread(form.layout, text, offset)?;
             Ok(false)
         }

@@ -10,6 +10,7 @@ ghost use Rattle.tcap_judging.specs.NameViews.{form_view};
 
 use crate::fault::JudgingFault;
 use crate::form::Form;
+use crate::judging::judge;
 use crate::label::Label;
 use crate::line_run::{MOST_READS, PIECE};
 use crate::message_text::add_message;
@@ -63,7 +64,7 @@ fn end_stream<A: Allocator + Copy, W: Write>(
     }
     let mut text = String::new(alloc);
     let label = Label::Offset(behind.offset);
-    let last = add_message(form, &mut text, label, behind.kept.as_slice())?;
+    let last = add_message(form, &mut text, label, &judge(behind.kept.as_slice()))?;
     write_text(writer, text.as_bytes())?;
     Ok(good & last)
 }

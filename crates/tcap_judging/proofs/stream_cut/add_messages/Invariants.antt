@@ -5,10 +5,10 @@ use Rattle.tcap_judging.specs.NameViews.{form_view}
 use Rattle.tcap_judging.proofs.stream_cut.add_messages.Given as goal
 
 -- the messages so far, and what is left
-abbrev pub invariant-loop-rest : goal.invariant-loop-rest
-invariant-loop-rest g l =
+abbrev pub invariant-loop-element : goal.invariant-loop-element
+invariant-loop-element g l =
     (l.place + length l.rest ≡ l.fn.offset + length l.fn.octets)
     × IsSoFar (form_view l.fn.form) l.fn.octets l.rest l.fn.offset l.place (string_bytes l.fn.text) (string_bytes l.text) l.good
 
-abbrev pub decreases-loop-rest : goal.decreases-loop-rest
-decreases-loop-rest g l = length l.rest
+abbrev pub decreases-loop-element : goal.decreases-loop-element
+decreases-loop-element g l = length l.rest

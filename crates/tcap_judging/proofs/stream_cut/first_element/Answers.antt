@@ -3,7 +3,7 @@ use Rattle.ber_core.proofs.CutGrammar.{cut-stops}
 use Rattle.ber_core.specs.Element.{depth_limit}
 use Rattle.ber_core.specs.Fault.{ElementFault}
 use Rattle.tcap_judging.proofs.StreamCuts.{message-first}
-use Rattle.tcap_judging.proofs.stream_cut.first_len.Goals as goal
+use Rattle.tcap_judging.proofs.stream_cut.first_element.Goals as goal
 
 pub returns-in-Ok : goal.returns-in-Ok
 returns-in-Ok c = message-first c.args.octets.now _ _ c.in-Ok.ensures.found.0 (sym c.front.ensures ∙ c.in-Ok.ensures.found.1)

@@ -1,0 +1,27 @@
+//! A message is judged once for all that is printed of it.
+
+ghost use Rattle.std.specs.Prelude.{◌≡◌};
+ghost use Rattle.tcap_words.specs.Verdict.{verdict_of};
+
+use crate::judged::Judged;
+use tcap_explain::explain_verdict;
+use tcap_words::{Verdict, verdict_on};
+
+/// A message on which the verdict is known.
+pub(crate) fn judged_so(octets: &[u8], verdict: Verdict) -> Judged<'_>
+    requires { verdict ≡ verdict_of octets.now }
+    ensures { result.octets.now ≡ octets.now }
+{
+    Judged {
+        octets,
+        verdict,
+        found: explain_verdict(verdict, octets),
+    }
+}
+
+/// A message that is judged.
+pub(crate) fn judge(octets: &[u8]) -> Judged<'_>
+    ensures { result.octets.now ≡ octets.now }
+{
+    judged_so(octets, verdict_on(octets))
+}
