@@ -1,7 +1,8 @@
 -- Where the fault of an element's encoding is told: the fronts that are open, and those that aren't.
-use Rattle.std.proofs.Common.{◌≡◌, ℕ, zero, suc, ◌<◌, ◌≤◌, true, false, eqb, List, ◌++◌, length, take, drop, Ok, Err, Result, refl, sym, ap, subst, ◌∙◌, arith, inl, inr, append_assoc}
+use Rattle.std.proofs.Common.{◌≡◌, ℕ, zero, suc, ◌+◌, ◌<◌, ◌≤◌, true, false, eqb, List, ◌++◌, length, take, drop, Ok, Err, Result, refl, sym, ap, subst, ◌∙◌, arith, inl, inr, append_assoc}
 use Rattle.std.proofs.lemmas.Bool.{cases_Bool, eqb-true, eqb-false}
 use Rattle.std.proofs.lemmas.List.{take-append-drop, take-take}
+use Rattle.std.proofs.Math.Seq.{take-length}
 use Rattle.ber_core.specs.declared.fault.BerFault.{BerFault}
 use Rattle.ber_core.specs.declared.fault.BerFault.TheVariants.{Short, BadTag, BadLength, IndefinitePrimitive, TooDeep}
 use Rattle.ber_core.specs.Element.{Parts}
@@ -136,3 +137,30 @@ told_at-only n bytes h =
     let up = t.longest n h.within h.open_before in
     let down = h.longest (told_at bytes) t.within t.open_before in
     omega (arith, up, down)
+
+-- ---- the fault where it is looked for first
+
+pub told-there : (bytes : List ℕ) (n : ℕ) → n < length bytes → is_open (take n bytes) ≡ true → is_open (take (n + 1) bytes) ≡ false → n ≡ told_at bytes
+unfolding told_at
+told-there bytes n low opened closed =
+    sym (open_by-is (length bytes) n bytes (omega (arith, low)) opened (λ m above within. closed-longer bytes (n + 1) m (omega (arith, above)) closed))
+
+pub told-end : (bytes : List ℕ) → is_open bytes ≡ true → length bytes ≡ told_at bytes
+unfolding told_at
+told-end bytes opened =
+    let all : is_open (take (length bytes) bytes) ≡ true = ap is_open (take-length bytes) ∙ opened in
+    sym (open_by-is (length bytes) (length bytes) bytes (omega arith) all (λ m above within. absurd (omega (arith, above, within))))
+
+-- a fault of a front is that of all
+pub front-fault : (bytes : List ℕ) (n : ℕ) (f : BerFault) → is_short f ≡ false → element_at 32 (take n bytes) ≡ Err f → element_at 32 bytes ≡ Err f
+front-fault bytes n f long e =
+    let stays = element_told (take n bytes ++ drop n bytes) f (fault_stays 32 (take n bytes) (drop n bytes) f (element_fails 32 (take n bytes) f e) long) in
+    ap (element_at 32) (sym (take-append-drop n bytes)) ∙ stays
+
+pub fault-closed : (bytes : List ℕ) (f : BerFault) → is_short f ≡ false → element_at 32 bytes ≡ Err f → is_open bytes ≡ false
+unfolding is_open
+fault-closed bytes Short long e = absurd cc
+fault-closed bytes BadTag long e = rw e refl
+fault-closed bytes BadLength long e = rw e refl
+fault-closed bytes IndefinitePrimitive long e = rw e refl
+fault-closed bytes TooDeep long e = rw e refl

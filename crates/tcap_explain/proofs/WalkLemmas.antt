@@ -1,5 +1,5 @@
 -- Contents held against a table: what a walk over them finds, element by element.
-use Rattle.std.proofs.Common.{◌≡◌, ℕ, zero, suc, ◌+◌, ◌-◌, ◌<◌, ◌≤◌, List, [], ◌∷◌, ◌++◌, length, Option, Some, None, option_map, Ok, Err, Result, refl, ap, subst, ◌∙◌, arith, inl, inr}
+use Rattle.std.proofs.Common.{◌≡◌, false, ℕ, zero, suc, ◌+◌, ◌-◌, ◌<◌, ◌≤◌, List, [], ◌∷◌, ◌++◌, length, Option, Some, None, option_map, Ok, Err, Result, refl, ap, subst, ◌∙◌, arith, inl, inr}
 use Rattle.std.proofs.lemmas.Bool.{cases_Bool}
 use Rattle.std.proofs.lemmas.List.{length-append}
 use Rattle.ber_core.specs.Tag.{IsTag, is_constructor}
@@ -8,6 +8,7 @@ use Rattle.ber_core.specs.HeadReading.{head_at}
 use Rattle.ber_core.specs.ElementReading.{element_at}
 use Rattle.ber_core.specs.Place.{head_length}
 use Rattle.ber_core.proofs.CallerLemmas.{HeadRead, head_again-definite, head_again-indefinite, by_result, element_takes, IsElement-longer, head_length-whole}
+use Rattle.ber_core.specs.declared.fault.BerFault.{BerFault}
 use Rattle.tcap_explain.specs.declared.line.Line.{Line}
 use Rattle.tcap_explain.specs.declared.line.Rule.{Rule}
 use Rattle.tcap_explain.specs.declared.line.Rule.TheVariants as rule
@@ -16,7 +17,7 @@ use Rattle.tcap_explain.specs.declared.table.Inside.{Inside}
 use Rattle.tcap_explain.specs.declared.table.Inside.TheVariants as inside
 use Rattle.tcap_explain.specs.Choice.{Choice}
 use Rattle.tcap_explain.specs.Table.{next, is_over}
-use Rattle.tcap_explain.specs.Walk.{unmet, further, Walk, inside_by, passed, chosen_by, step_from, step_by, ended, behind, walk_by, walk, step}
+use Rattle.tcap_explain.specs.Walk.{unmet, badly_encoded, further, Walk, inside_by, passed, chosen_by, step_from, step_by, ended, behind, walk_by, walk, step}
 
 -- ---- the content of an element within its whole
 
@@ -164,3 +165,8 @@ walk-next line (b ∷ bytes) lt =
     let agree : (l : Line) (c : List ℕ) → length c < length all → walk_by n l c ≡ walk l c = λ l c lt. walk_by-enough n (length c) l c (omega (arith, lt)) (omega arith) in
     ap (behind (walk_by n) (length all)) (same_step (walk_by n) walk line all agree)
     ∙ same_behind (walk_by n) walk (length all) (step line all) (λ s e. agree s.0 s.1 (step-shorter walk line all s e))
+
+-- where no element is read
+pub walk-unread : (line : Line) (bytes : List ℕ) (f : BerFault) → 0 < length bytes → is_over line ≡ false → element_at 32 bytes ≡ Err f → walk line bytes ≡ Some (badly_encoded bytes f)
+unfolding step
+walk-unread line bytes f lt over e = walk-next line bytes lt ∙ rw (over, e) refl

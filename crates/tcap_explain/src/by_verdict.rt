@@ -11,6 +11,7 @@ ghost use Rattle.tcap_explain.specs.declared.line.Explained.{Explained};
 ghost use Rattle.tcap_explain.specs.FaultAt.{FaultAt};
 ghost use Rattle.tcap_explain.specs.Explaining.{external_line, portion_place, dialogue_fault, left_of, faulty_component, component_fault, in_message, explained_by, explained_at};
 
+use crate::encoding::likely_fault;
 use crate::line::{ComponentLine, Explained, Line, ListLine, MessageLine, PortionLine, Rule};
 use crate::walk::{further_on, walk};
 use crate::way::way;
@@ -163,6 +164,14 @@ fn explain_format(bytes: &[u8]) -> Option<Explained>
     ensures { result ≡ first_of (walk (Line.List ListLine.OneElement) bytes.now)
         (walk (Line.List ListLine.OneConstructed) bytes.now) }
 {
+    // Where it is found at once, the bytes aren't read through first.
+    if let Some((place, fault)) = likely_fault(bytes) {
+        return Some(Explained {
+            place,
+            element: 0,
+            rule: Rule::Encoding(fault),
+        });
+    }
     match walk(Line::List(ListLine::OneElement), bytes) {
         Some(found) => Some(found),
         None => walk(Line::List(ListLine::OneConstructed), bytes),

@@ -32,6 +32,11 @@ fn pass_one(open: u8, rest: &[u8]) -> Option<(u8, &[u8])>
 {
     match rest {
         [0, 0, after @ ..] if open > 0 => return Some((open - 1, after)),
+        // Most heads are a tag of one octet and a length of one, and are seen at once.
+        [tag, len, body @ ..]
+            if *tag != 0 && *tag & 0x1f != 0x1f && *len < 0x80 && *len as usize <= body.len() => {
+            return Some((open, &body[*len as usize..]));
+        }
         _ => {}
     }
     let head = read_head(rest).ok()?;
@@ -71,6 +76,28 @@ fn likely_place(bytes: &[u8]) -> usize
     match rest {
         [0, ..] if open > 0 => before + 1,
         _ => before + head_octets(rest),
+    }
+}
+
+/// The octet at which the fault of the element is told with which the bytes begin, and that fault, where it is found at
+/// once: it is where it is likely.
+#[tactic(auto, unfolding(crate::specs::EncodingPlace::is_open))]
+pub(crate) fn likely_fault(bytes: &[u8]) -> Option<(usize, BerFault)>
+    ensures filled { IfSome result (λ r. 0 < length bytes.now) }
+    ensures within { IfSome result (λ r. r.0 ≤ length bytes.now) }
+    ensures place { IfSome result (λ r. r.0 ≡ told_at bytes.now) }
+    ensures fault { IfSome result (λ r. element_at depth_limit bytes.now ≡ Err r.1) }
+{
+    let place = likely_place(bytes);
+    if bytes.is_empty() || !is_front(&bytes[..place]) {
+        return None;
+    }
+    if place == bytes.len() {
+        return Some((place, BerFault::Short));
+    }
+    match read_element(&bytes[..place + 1]) {
+        Ok(_) | Err(BerFault::Short) => None,
+        Err(fault) => Some((place, fault)),
     }
 }
 
