@@ -19,6 +19,7 @@ use tcap_words::{Verdict, judge_message};
 
 /// A transaction identifier with this tag, and what follows it.
 #[tactic(auto, unfolding(tcap_pdu::specs::FrameReading::id_at))]
+#[inline(always)]
 fn take_id(octets: &[u8], tag: u8) -> Option<(TransId, &[u8])>
     ensures { option_map (λ r. (r.0, r.1.now)) result ≡ id_at tag octets.now }
 {
@@ -29,6 +30,7 @@ fn take_id(octets: &[u8], tag: u8) -> Option<(TransId, &[u8])>
 
 /// The contents of 6B and 6C where they stand, with nothing after them.
 #[tactic(auto, unfolding(tcap_pdu::specs::FrameReading::portions_at))]
+#[inline(always)]
 fn take_portions(octets: &[u8]) -> Option<(Option<&[u8]>, &[u8])>
     ensures { option_map (λ r. pair (option_copied r.0) r.1.now) result ≡ portions_at octets.now }
 {
@@ -58,6 +60,7 @@ fn read_unidirectional(content: &[u8]) -> Option<Frame<'_>>
 
 /// Begin: 48, [6B], [6C].
 #[tactic(auto, unfolding(tcap_pdu::specs::FrameReading::begin_at))]
+#[inline(always)]
 fn read_begin(content: &[u8]) -> Option<Frame<'_>>
     ensures { option_map message result ≡ begin_at content.now }
 {
@@ -72,6 +75,7 @@ fn read_begin(content: &[u8]) -> Option<Frame<'_>>
 
 /// End: 49, [6B], [6C].
 #[tactic(auto, unfolding(tcap_pdu::specs::FrameReading::end_at))]
+#[inline(always)]
 fn read_end(content: &[u8]) -> Option<Frame<'_>>
     ensures { option_map message result ≡ end_at content.now }
 {
@@ -86,6 +90,7 @@ fn read_end(content: &[u8]) -> Option<Frame<'_>>
 
 /// Continue: 48, 49, [6B], [6C].
 #[tactic(auto, unfolding(tcap_pdu::specs::FrameReading::go_on_at))]
+#[inline(always)]
 fn read_continue(content: &[u8]) -> Option<Frame<'_>>
     ensures { option_map message result ≡ go_on_at content.now }
 {
@@ -147,6 +152,7 @@ fn read_abort(content: &[u8]) -> Option<Frame<'_>>
 
 /// The message that an element is, if it is one.
 #[tactic(auto, unfolding(tcap_pdu::specs::FrameReading::type_at))]
+#[inline(always)]
 fn frame_of<'a>(element: &Element<'a>) -> Option<Frame<'a>>
     ensures { option_map message result ≡ message_in (parts element.now) }
 {
@@ -186,6 +192,7 @@ fn verdict_on_unread(element: &Element<'_>) -> Verdict
 }
 
 /// The verdict on an element of at most as many octets as a message has.
+#[inline(always)]
 pub(crate) fn verdict_on_element(element: &Element<'_>) -> Verdict
     requires is_element { IsElement depth_limit (parts element.now) }
     requires most { length element.now.whole.now ≤ message_limit }

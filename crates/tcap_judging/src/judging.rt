@@ -7,15 +7,21 @@ use crate::judged::Judged;
 use tcap_explain::explain_verdict;
 use tcap_words::{Verdict, verdict_on};
 
-/// A message on which the verdict is known.
+/// A message on which the verdict is known. A good one isn't looked into again.
+#[inline(always)]
+#[tactic(auto, unfolding(tcap_explain::specs::Explaining::explained_at))]
 pub(crate) fn judged_so(octets: &[u8], verdict: Verdict) -> Judged<'_>
     requires { verdict ≡ verdict_of octets.now }
     ensures { result.octets.now ≡ octets.now }
 {
+    let found = match verdict {
+        Verdict::Good => None,
+        _ => explain_verdict(verdict, octets),
+    };
     Judged {
         octets,
         verdict,
-        found: explain_verdict(verdict, octets),
+        found,
     }
 }
 

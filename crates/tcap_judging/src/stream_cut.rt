@@ -10,10 +10,9 @@ ghost use Rattle.tcap_judging.specs.EntryText.{entries_text, are_good, plain_unr
 ghost use Rattle.tcap_judging.specs.StreamSteps.{AddsMessages, AddsOctets};
 ghost use Rattle.tcap_judging.specs.NameViews.{form_view};
 
-use crate::by_element::verdict_on_element;
 use crate::form::{Form, Layout};
 use crate::json_text::add_unread_object;
-use crate::judging::{judge, judged_so};
+use crate::judging::judge;
 use crate::label::Label;
 use crate::message_text::add_message;
 use ber_core::{BerFault, Element, FeedFault, MAX_LENGTH, OutOfMemory, read_element};
@@ -65,6 +64,7 @@ pub(crate) fn fault_of(why: BerFault, rest: &[u8]) -> Option<FeedFault>
 }
 
 /// The element that the first message is, or why there is none.
+#[inline(always)]
 pub(crate) fn first_element(octets: &[u8]) -> Result<Element<'_>, BerFault>
     ensures { MatchResult result
         (λ e. (0 < length e.whole.now) × (length e.whole.now ≤ length octets.now)
@@ -106,8 +106,7 @@ pub(crate) fn add_messages<'a, A: Allocator + Copy>(
             }
         };
         let message = element.whole;
-        let judged = judged_so(message, verdict_on_element(&element));
-        good &= add_message(form, text, Label::Offset(place), &judged)?;
+        good &= add_message(form, text, Label::Offset(place), &judge(message))?;
         place += message.len() as u64;
         rest = &rest[message.len()..];
     }
