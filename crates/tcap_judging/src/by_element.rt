@@ -3,7 +3,7 @@
 
 ghost use Rattle.std.specs.Prelude.{◌≡◌, ◌≤◌, length, is_ok, option_map, option_copied, if◌then◌else◌};
 ghost use Rattle.std.specs.List.{list_all};
-ghost use Rattle.ber_core.specs.Element.{IsElement, Parts, depth_limit};
+ghost use Rattle.ber_core.specs.Element.{IsElement, depth_limit};
 ghost use Rattle.ber_core.specs.ListReading.{items_of};
 ghost use Rattle.ber_core.specs.SequenceReading.{ending};
 ghost use Rattle.ber_core.specs.Views.{parts};

@@ -30,6 +30,7 @@ mod message_text;
 mod name_line;
 mod name_list;
 mod naming;
+mod passed_text;
 mod place;
 mod refusal;
 mod request;

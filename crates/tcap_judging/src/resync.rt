@@ -1,25 +1,24 @@
 //! A stream that goes on behind its faults.
 
-ghost use Rattle.std.specs.Prelude.{◌≡◌, ◌<◌, ◌≤◌, ◌+◌, ◌*◌, ◌^◌, ◌++◌, Bool, Some, [], length, nat_lt, true, false, if◌then◌else◌, IfOk, OnOk, string_bytes};
+ghost use Rattle.std.specs.Prelude.{◌≡◌, ◌<◌, ◌≤◌, ◌+◌, ◌*◌, ◌^◌, ◌++◌, Bool, Some, [], length, nat_lt, true, false, if◌then◌else◌, IfOk, string_bytes};
 ghost use Rattle.ber_core.specs.Stream.{cut_into, cut_of};
-ghost use Rattle.tcap_judging.specs.EntryText.{passed_text, plain_passed_text};
 ghost use Rattle.tcap_judging.specs.Resync.{first_of, is_known, judged_of};
 ghost use Rattle.tcap_judging.specs.ResyncSteps.{AddsSteps, left_at, offset_at};
 ghost use Rattle.tcap_judging.specs.NameViews.{form_view};
 ghost use Rattle.tcap_words.specs.Verdict.{message_limit, verdict_of};
 
 use crate::by_element::verdict_on_element;
-use crate::form::{Form, Layout};
-use crate::json_text::add_passed_object;
+use crate::form::Form;
 use crate::judging::judged_so;
 use crate::label::Label;
 use crate::message_text::add_message;
+use crate::passed_text::add_passed;
 use crate::place::Place;
 use crate::search::pass_over;
 use crate::stream_cut::{fault_of, first_element, front, judged_by};
 use ber_core::{FeedFault, MAX_LENGTH, OutOfMemory};
 use std::alloc::Allocator;
-use tcap_words::{Verdict, add_decimal};
+use tcap_words::Verdict;
 
 /// Where a run stands after a step, the octets from there on, whether all that was told is good, and whether no more
 /// can be told.
@@ -49,35 +48,6 @@ fn judged_of(rest: &[u8], fault: Option<FeedFault>) -> &[u8]
         Some(why) => front(rest, judged_by(why)),
         None => rest,
     }
-}
-
-/// Adds what is printed for octets that are passed over.
-fn add_passed<A: Allocator + Copy>(
-    layout: Layout,
-    text: &mut String<A>,
-    first: u64,
-    count: u64,
-) -> Result<(), OutOfMemory>
-    ensures { OnOk result (string_bytes text.new ≡ string_bytes text.old ++ passed_text layout first count) }
-{
-    match layout {
-        Layout::Json => add_passed_object(text, first, count),
-        Layout::Plain | Layout::Marked => add_plain_passed(text, first, count),
-    }
-}
-
-/// Adds the line of octets that are passed over.
-fn add_plain_passed<A: Allocator + Copy>(
-    text: &mut String<A>,
-    first: u64,
-    count: u64,
-) -> Result<(), OutOfMemory>
-    ensures { OnOk result (string_bytes text.new ≡ string_bytes text.old ++ plain_passed_text first count) }
-{
-    add_decimal(text, first)?;
-    text.push_str(" passed over ")?;
-    add_decimal(text, count)?;
-    Ok(text.push_str(" octets\n")?)
 }
 
 /// Tells the first message of the octets, which has this offset.
