@@ -38,7 +38,8 @@ fn appended<'h>(
 #[derive(Drop)]
 struct Pair<'h> {
     lot: Lot,
-    heaps: [Heap<'h>; 2],
+    vector_heap: Heap<'h>,
+    outbox_heap: Heap<'h>,
     by_vector: Engine<Heap<'h>>,
     by_outbox: Engine<Heap<'h>>,
     outbox: Outbox<Heap<'h>>,
@@ -53,19 +54,19 @@ struct Pair<'h> {
 
 impl<'h> Pair<'h> {
     /// Two engines in which nothing has happened.
-    fn new(alloc: Global, heaps: [Heap<'h>; 2], seed: u64) -> Pair<'h> {
+    fn new(alloc: Global, vector_heap: Heap<'h>, outbox_heap: Heap<'h>, seed: u64) -> Pair<'h> {
         let limits = Limits {
             max_dialogues: 24,
             reject_ms: 60,
             idle_ms: 900,
         };
-        let [first, second] = heaps;
         Pair {
             lot: Lot(seed),
-            heaps,
-            by_vector: Engine::new(first, limits),
-            by_outbox: Engine::new(second, limits),
-            outbox: Outbox::new(second),
+            vector_heap,
+            outbox_heap,
+            by_vector: Engine::new(vector_heap, limits),
+            by_outbox: Engine::new(outbox_heap, limits),
+            outbox: Outbox::new(outbox_heap),
             dialogues: Vec::new(alloc),
             under_way: Vec::new(alloc),
             outputs: 0,
@@ -75,7 +76,8 @@ impl<'h> Pair<'h> {
 
     /// A dialogue that was created, 0 where none was; one that is over is forgotten.
     fn draw_dialogue(&mut self) -> u32 {
-        let place = self.lot.place(self.dialogues.len());
+        let count = self.dialogues.len();
+        let place = self.lot.place(count);
         let Some(dialogue) = self.dialogues.get(place).copied() else {
             return 0;
         };
@@ -92,7 +94,8 @@ impl<'h> Pair<'h> {
 
     /// A message that was sent, no octets where none is under way. Most arrive once; some twice, some damaged.
     fn draw_message(&mut self, alloc: Global) -> Option<Vec<u8>> {
-        let place = self.lot.place(self.under_way.len());
+        let count = self.under_way.len();
+        let place = self.lot.place(count);
         let Some(slot) = self.under_way.get_mut(place) else {
             return Some(Vec::new(alloc));
         };
@@ -155,7 +158,7 @@ impl<'h> Pair<'h> {
     /// Hands an event to the engine that answers a vector; where memory was refused, twice.
     fn answer<'m>(&mut self, event: &Event<'m>) -> Option<Answer<'m, Heap<'h>>> {
         let growth = self.draw_growth();
-        let [heap, _] = self.heaps;
+        let heap = self.vector_heap;
         heap.refuse(growth);
         let answer = self.by_vector.handle(event);
         heap.refuse(0);
@@ -171,7 +174,7 @@ impl<'h> Pair<'h> {
     fn append(&mut self, event: &Event<'_>) -> Option<Answered> {
         let first = self.outbox.len();
         let growth = self.draw_growth();
-        let [_, heap] = self.heaps;
+        let heap = self.outbox_heap;
         heap.refuse(growth);
         let answered = appended(&mut self.by_outbox, event, &mut self.outbox);
         heap.refuse(0);
@@ -206,10 +209,8 @@ impl<'h> Pair<'h> {
         match self.lot.below(16) {
             0 => self.take(alloc, &Event::NewDialogue),
             1..=2 => {
-                let moment = self
-                    .by_vector
-                    .now()
-                    .saturating_add(u64::from(self.lot.below(60)));
+                let wait = u64::from(self.lot.below(60));
+                let moment = self.by_vector.now().saturating_add(wait);
                 self.take(alloc, &Event::Moment(moment))
             }
             3..=7 if !self.under_way.is_empty() => {
@@ -232,9 +233,9 @@ fn vectors_and_outbox_are_the_same(rt: HostRuntime) -> Result<(), Fail> {
     let alloc = rt.alloc();
     let parts = Parts::new(alloc).ok_or("no memory")?;
     for seed in [1u64, 2] {
-        let heaps = [Refusing::new(alloc), Refusing::new(alloc)];
-        let [first, second] = &heaps;
-        let mut pair = Pair::new(alloc, [first, second], seed);
+        let vector_heap = Refusing::new(alloc);
+        let outbox_heap = Refusing::new(alloc);
+        let mut pair = Pair::new(alloc, &vector_heap, &outbox_heap, seed);
         for turn in 0..TURNS {
             assert!(rt;
                 pair.turn(alloc, &parts).is_some(),
