@@ -6,6 +6,7 @@ pub mod EncodingLemmas
 pub mod FaultAtLemmas
 pub mod FaultThere
 pub mod MessageAgain
+pub mod MessageRead
 pub mod MessageStands
 pub mod PduAgain
 pub mod PduStands

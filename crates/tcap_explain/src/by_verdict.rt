@@ -20,7 +20,7 @@ use tcap_pdu::{AbortPart, Frame, MAX_MESSAGE, tag};
 use tcap_words::{Verdict, read_message, verdict_on};
 
 /// The tag of a message.
-fn tag_of(frame: &Frame<'_>) -> u8
+pub(crate) fn tag_of(frame: &Frame<'_>) -> u8
     ensures { result ≡ message_tag (message frame.now) }
 {
     match frame {
@@ -61,7 +61,7 @@ fn portion_of<'a>(frame: &Frame<'a>) -> Option<&'a [u8]>
 }
 
 /// The contents of the component portion of a message, empty where it has none.
-fn components_of<'a>(frame: &Frame<'a>) -> &'a [u8]
+pub(crate) fn components_of<'a>(frame: &Frame<'a>) -> &'a [u8]
     ensures { result.now ≡ components_in (message frame.now) }
 {
     match frame {
@@ -74,7 +74,7 @@ fn components_of<'a>(frame: &Frame<'a>) -> &'a [u8]
 }
 
 /// What is not met in contents that stand so many octets behind the front.
-fn walk_at(before: usize, line: Line, content: &[u8]) -> Option<Explained>
+pub(crate) fn walk_at(before: usize, line: Line, content: &[u8]) -> Option<Explained>
     requires { before + length content.now < 2 ^ 64 }
     ensures value { result ≡ option_map (further before) (walk line content.now) }
     ensures within { IfSome result (λ x. IsWithin (before + length content.now) x) }

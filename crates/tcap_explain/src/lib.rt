@@ -5,6 +5,7 @@
 //! stands in specs/FaultAt.antt, the tables in specs/Table.antt. `explain` takes no memory.
 #![tactic(auto)]
 
+mod by_message;
 mod by_verdict;
 mod component_tag;
 mod contents;
@@ -18,6 +19,7 @@ mod walk;
 mod way;
 mod words;
 
+pub use by_message::explain_message;
 pub use by_verdict::{explain, explain_verdict};
 pub use contents::Contents;
 pub use fault_text::{add_explained, add_found, add_wanted, explain_text};

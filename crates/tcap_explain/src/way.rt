@@ -1,11 +1,13 @@
 //! Where the portions of a message begin in its octets.
 
-ghost use Rattle.std.specs.Prelude.{◌≡◌, ◌+◌, ◌≤◌, [], ◌∷◌, length};
+ghost use Rattle.std.specs.Prelude.{◌≡◌, ◌+◌, ◌≤◌, true, [], ◌∷◌, length};
 ghost use Rattle.ber_core.specs.Place.{head_length};
 ghost use Rattle.ber_core.specs.SequenceReading.{is_tag};
 ghost use Rattle.ber_core.specs.Way.{inside, way_to};
+ghost use Rattle.ber_core.specs.Element.{IsElement, depth_limit};
+ghost use Rattle.ber_core.specs.Views.{parts};
 
-use ber_core::{read_element, read_head};
+use ber_core::{Element, read_element, read_head};
 
 /// How many octets the head of the first element has.
 #[tactic(auto, unfolding(ber_core::specs::Place::head_length))]
@@ -56,4 +58,15 @@ pub(crate) fn way(message: u8, portion: u8, bytes: &[u8]) -> usize
     let (front, content) = find(message, bytes);
     let (before, _) = find(portion, content);
     front + before
+}
+
+/// `way` in an element that was read and has the tag of the message: it isn't read again.
+pub(crate) fn way_within(message: u8, portion: u8, element: &Element<'_>) -> usize
+    requires element { IsElement depth_limit (parts element.now) }
+    requires tag { is_tag message element.now.tag.now ≡ true }
+    ensures value { result ≡ way_to (message ∷ portion ∷ []) element.now.whole.now }
+    ensures within { result ≤ length element.now.whole.now }
+{
+    let (before, _) = find(portion, element.content);
+    head_len(element.whole) + before
 }

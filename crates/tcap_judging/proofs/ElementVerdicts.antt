@@ -7,7 +7,7 @@ use Rattle.ber_core.specs.Element.{IsElement, Parts, depth_limit}
 use Rattle.ber_core.specs.ListReading.{items_of}
 use Rattle.tcap_pdu.proofs.FrameGrammar.{frame_again, is_frame}
 use Rattle.tcap_pdu.specs.FrameReading.{contents_by, frame_at, message_at, type_at}
-use Rattle.tcap_pdu.specs.FrameSpelling.{Message}
+use Rattle.tcap_pdu.specs.FrameSpelling.{IsFrame, Message}
 use Rattle.tcap_pdu.specs.declared.fault.FrameFault.{FrameFault}
 use Rattle.tcap_pdu.specs.declared.frame.read.MessageType.{MessageType}
 use Rattle.tcap_judging.specs.ByElement.{message_in, unread, unread_by}
@@ -45,6 +45,9 @@ within octets most = by (nat_lt message_limit (length octets)) refl where
 pub verdict-read : (e : Parts) (m : Message) → IsElement depth_limit e → length e.whole ≤ message_limit → message_in e ≡ Some m → message_verdict m ≡ verdict_of e.whole
 verdict-read e m h most is = sym (within e.whole most ∙ ap (λ (r : Result Message FrameFault). verdict_by (message_by r)) (frame-read e m _ h refl is))
 
+pub frame-verdict : (e : Parts) (m : Message) → IsElement depth_limit e → length e.whole ≤ message_limit → IsFrame m e → message_verdict m ≡ verdict_of e.whole
+frame-verdict e m h most is = sym (within e.whole most ∙ ap (λ (r : Result Message FrameFault). verdict_by (message_by r)) (frame_again m e.whole (record { element = e; is_element = h; is_whole = refl; is_frame = is })))
+
 pub verdict-unread : (e : Parts) → IsElement depth_limit e → length e.whole ≤ message_limit → message_in e ≡ None → verdict_of_fault (unread e) ≡ verdict_of e.whole
 verdict-unread e h most is = sym (within e.whole most ∙ ap (λ (r : Result Message FrameFault). verdict_by (message_by r)) (frame-unread e h is))
 
@@ -55,3 +58,9 @@ fault-bad FrameFault.Incorrect = refl
 
 pub unread-bad : (e : Parts) → IsElement depth_limit e → length e.whole ≤ message_limit → message_in e ≡ None → false ≡ is_good (verdict_of e.whole)
 unread-bad e h most is = sym (fault-bad (unread e)) ∙ ap is_good (verdict-unread e h most is)
+
+pub frame-is : (e : Parts) (m : Message) → message_in e ≡ Some m → IsFrame m e
+frame-is e m is = by (type_at e.tag) refl where
+  by : (kind : Option MessageType) → type_at e.tag ≡ kind → IsFrame m e
+  by None t = let none : message_in e ≡ None = ap (λ (k : Option MessageType). k >>= (λ kind. message_at kind e.content)) t in absurd cc
+  by (Some kind) t = is_frame e kind m t (sym (ap (λ (k : Option MessageType). k >>= (λ kind. message_at kind e.content)) t) ∙ is)

@@ -8,12 +8,16 @@ ghost use Rattle.ber_core.specs.ListReading.{items_of};
 ghost use Rattle.ber_core.specs.SequenceReading.{ending};
 ghost use Rattle.ber_core.specs.Views.{parts};
 ghost use Rattle.tcap_pdu.specs.FrameReading.{abort_at, begin_at, cause_at, end_at, go_on_at, id_at, pair, portions_at, reason_at, unidirectional_at};
+ghost use Rattle.tcap_pdu.specs.FrameSpelling.{IsFrame};
 ghost use Rattle.tcap_pdu.specs.FrameViews.{message, reason_of};
 ghost use Rattle.tcap_words.specs.Show.{show_is_good};
-ghost use Rattle.tcap_words.specs.Verdict.{message_limit, verdict_of, verdict_of_fault};
+ghost use Rattle.tcap_words.specs.Verdict.{message_limit, verdict_of_fault};
 ghost use Rattle.tcap_judging.specs.ByElement.{message_in, unread};
 
+use crate::judged::Judged;
+use crate::judging::judged_so;
 use ber_core::{Element, is_element_list, take_content, take_tagged};
+use tcap_explain::explain_message;
 use tcap_pdu::{AbortPart, Frame, FrameFault, TransId, tag};
 use tcap_words::{Verdict, judge_message};
 
@@ -191,16 +195,31 @@ fn verdict_on_unread(element: &Element<'_>) -> Verdict
     }
 }
 
-/// The verdict on an element of at most as many octets as a message has.
+/// An element that is this message, judged.
 #[inline(always)]
-pub(crate) fn verdict_on_element(element: &Element<'_>) -> Verdict
+fn judge_frame<'a>(element: &Element<'a>, frame: &Frame<'_>) -> Judged<'a>
     requires is_element { IsElement depth_limit (parts element.now) }
     requires most { length element.now.whole.now ≤ message_limit }
-    ensures { result ≡ verdict_of element.now.whole.now }
+    requires is_frame { IsFrame (message frame.now) (parts element.now) }
+    ensures { result.octets.now ≡ element.now.whole.now }
+{
+    let verdict = judge_message(frame);
+    Judged {
+        octets: element.whole,
+        verdict,
+        found: explain_message(verdict, element, frame),
+    }
+}
+
+/// An element of at most as many octets as a message has, judged. Of a message it isn't read again what it is.
+pub(crate) fn judge_element<'a>(element: &Element<'a>) -> Judged<'a>
+    requires is_element { IsElement depth_limit (parts element.now) }
+    requires most { length element.now.whole.now ≤ message_limit }
+    ensures { result.octets.now ≡ element.now.whole.now }
 {
     match frame_of(element) {
-        Some(frame) => judge_message(&frame),
-        None => verdict_on_unread(element),
+        Some(frame) => judge_frame(element, &frame),
+        None => judged_so(element.whole, verdict_on_unread(element)),
     }
 }
 

@@ -5,10 +5,11 @@ ghost use Rattle.ber_core.specs.Stream.{cut_into, cut_of};
 ghost use Rattle.tcap_judging.specs.Resync.{first_of, is_known, judged_of};
 ghost use Rattle.tcap_judging.specs.ResyncSteps.{AddsSteps, left_at, offset_at};
 ghost use Rattle.tcap_judging.specs.NameViews.{form_view};
-ghost use Rattle.tcap_words.specs.Verdict.{message_limit, verdict_of};
+ghost use Rattle.tcap_words.specs.Verdict.{message_limit};
 
-use crate::by_element::verdict_on_element;
+use crate::by_element::judge_element;
 use crate::form::Form;
+use crate::judged::Judged;
 use crate::judging::judged_so;
 use crate::label::Label;
 use crate::message_text::add_message;
@@ -55,20 +56,18 @@ fn add_first<'a, A: Allocator + Copy>(
     form: Form<'_>,
     text: &mut String<A>,
     offset: u64,
-    message: &[u8],
-    verdict: Verdict,
+    judged: Judged<'_>,
     octets: &'a [u8],
 ) -> Result<Stepped<'a>, OutOfMemory>
     requires room { offset + length octets.now < 2 ^ 64 }
-    requires sizes { (0 < length message.now) × (length message.now ≤ length octets.now) }
-    requires verdict { verdict ≡ verdict_of message.now }
-    requires is_first { first_of (cut_of octets.now).messages ≡ Some message.now }
+    requires sizes { (0 < length judged.octets.now) × (length judged.octets.now ≤ length octets.now) }
+    requires is_first { first_of (cut_of octets.now).messages ≡ Some judged.octets.now }
     ensures adds { (ends : Bool) → IfOk result (λ s. AddsSteps (form_view form.entry) ends (Place.Reading offset)
         octets.now s.place s.rest.now s.is_over (string_bytes text.old) (string_bytes text.new) s.good) }
     ensures within { IfOk result (λ s. offset_at s.place + length s.rest.now ≡ offset + length octets.now) }
     ensures less { IfOk result (λ s. s.is_over ≡ false → left_at s.place (length s.rest.now) < 2 * length octets.now) }
 {
-    let judged = judged_so(message, verdict);
+    let message = judged.octets;
     let good = add_message(form, text, Label::Offset(offset), &judged)?;
     if good {
         return Ok(Stepped {
@@ -146,14 +145,7 @@ fn read_on<'a, A: Allocator + Copy>(
     ensures less { IfOk result (λ s. s.is_over ≡ false → left_at s.place (length s.rest.now) < 2 * length octets.now) }
 {
     match first_element(octets) {
-        Ok(element) => add_first(
-            form,
-            text,
-            offset,
-            element.whole,
-            verdict_on_element(&element),
-            octets,
-        ),
+        Ok(element) => add_first(form, text, offset, judge_element(&element), octets),
         Err(why) => add_none(form, text, ends, offset, octets, fault_of(why, octets)),
     }
 }

@@ -49,7 +49,7 @@ fn may_hold(tag: u8, octets: &[u8]) -> bool
     }
 }
 
-/// The same of what stands behind the head of the octets, if one does.
+/// Whether what stands behind the head of the octets may be so; true where they begin with no head.
 fn may_hold_behind(tag: u8, octets: &[u8]) -> bool
     ensures { result ≡ may_hold_behind tag (head_at octets.now) }
 {

@@ -10,14 +10,12 @@ use Rattle.tcap_judging.proofs.resync.add_first.Goals as goal
 
 pub returns-then-good-clause-adds : goal.returns-then-good-clause-adds
 returns-then-good-clause-adds g c = λ ends.
-    let same = c.judged_so-judged.ensures in
-    let good : true ≡ show_is_good c.args.message.now = sym c.if-good.true ∙ c.in_ok-good.ensures.good ∙ ap show_is_good same in
-    let text = subst (λ j. string_bytes c.add_message.new.text ≡ string_bytes c.args.text.now ++ message_text (form_view c.args.form) (offset c.args.offset) j) same c.in_ok-good.ensures.text in
-    first-reads (form_view c.args.form) ends _ _ c.args.message.now c.requires.is_first c.requires.sizes.0 c.requires.sizes.1 _ _ _ (rest-from c.args.octets.now _) text good
+    let good : true ≡ show_is_good c.args.judged.octets.now = sym c.if-good.true ∙ c.in_ok-good.ensures.good in
+    let text = c.in_ok-good.ensures.text in
+    first-reads (form_view c.args.form) ends _ _ c.args.judged.octets.now c.requires.is_first c.requires.sizes.0 c.requires.sizes.1 _ _ _ (rest-from c.args.octets.now _) text good
 
 pub returns-clause-adds : goal.returns-clause-adds
 returns-clause-adds g c = λ ends.
-    let same = c.judged_so-judged.ensures in
-    let bad : false ≡ show_is_good c.args.message.now = sym c.if-good.false ∙ c.in_ok-good.ensures.good ∙ ap show_is_good same in
-    let text = subst (λ j. string_bytes c.add_message.new.text ≡ string_bytes c.args.text.now ++ message_text (form_view c.args.form) (offset c.args.offset) j) same c.in_ok-good.ensures.text in
-    first-doubts (form_view c.args.form) ends _ _ c.args.message.now c.requires.is_first c.requires.sizes.0 c.requires.sizes.1 _ _ _ (rest-from c.args.octets.now 1) text bad
+    let bad : false ≡ show_is_good c.args.judged.octets.now = sym c.if-good.false ∙ c.in_ok-good.ensures.good in
+    let text = c.in_ok-good.ensures.text in
+    first-doubts (form_view c.args.form) ends _ _ c.args.judged.octets.now c.requires.is_first c.requires.sizes.0 c.requires.sizes.1 _ _ _ (rest-from c.args.octets.now 1) text bad
