@@ -11,13 +11,14 @@ ghost use Rattle.tcap_pdu.specs.FrameReading.{abort_at, begin_at, cause_at, end_
 ghost use Rattle.tcap_pdu.specs.FrameSpelling.{IsFrame};
 ghost use Rattle.tcap_pdu.specs.FrameViews.{message, reason_of};
 ghost use Rattle.tcap_words.specs.Show.{show_is_good};
-ghost use Rattle.tcap_words.specs.Verdict.{message_limit, verdict_of_fault};
+ghost use Rattle.tcap_words.specs.Verdict.{message_limit, message_verdict, verdict_of, verdict_of_fault};
+ghost use Rattle.tcap_explain.specs.Explaining.{explained_at};
 ghost use Rattle.tcap_judging.specs.ByElement.{message_in, unread};
 
 use crate::judged::Judged;
 use crate::judging::judged_so;
 use ber_core::{Element, is_element_list, take_content, take_tagged};
-use tcap_explain::explain_message;
+use tcap_explain::{Explained, explain_message};
 use tcap_pdu::{AbortPart, Frame, FrameFault, TransId, tag};
 use tcap_words::{Verdict, judge_message};
 
@@ -195,6 +196,23 @@ fn verdict_on_unread(element: &Element<'_>) -> Verdict
     }
 }
 
+/// Where the fault of an element that is this message is, by the verdict on it. A good one isn't looked into again.
+#[inline(always)]
+#[tactic(auto, unfolding(tcap_explain::specs::Explaining::explained_at))]
+fn found_in(verdict: Verdict, element: &Element<'_>, frame: &Frame<'_>) -> Option<Explained>
+    requires is_element { IsElement depth_limit (parts element.now) }
+    requires most { length element.now.whole.now ≤ message_limit }
+    requires is_frame { IsFrame (message frame.now) (parts element.now) }
+    requires of_frame { verdict ≡ message_verdict (message frame.now) }
+    requires of_octets { verdict ≡ verdict_of element.now.whole.now }
+    ensures { result ≡ explained_at element.now.whole.now }
+{
+    match verdict {
+        Verdict::Good => None,
+        _ => explain_message(verdict, element, frame),
+    }
+}
+
 /// An element that is this message, judged.
 #[inline(always)]
 fn judge_frame<'a>(element: &Element<'a>, frame: &Frame<'_>) -> Judged<'a>
@@ -207,7 +225,7 @@ fn judge_frame<'a>(element: &Element<'a>, frame: &Frame<'_>) -> Judged<'a>
     Judged {
         octets: element.whole,
         verdict,
-        found: explain_message(verdict, element, frame),
+        found: found_in(verdict, element, frame),
     }
 }
 

@@ -10,7 +10,6 @@ ghost use Rattle.tcap_judging.specs.EntryText.{entries_text, are_good, plain_unr
 ghost use Rattle.tcap_judging.specs.StreamSteps.{AddsMessages, AddsOctets};
 ghost use Rattle.tcap_judging.specs.NameViews.{form_view};
 
-use crate::by_element::judge_element;
 use crate::form::{Form, Layout};
 use crate::json_text::add_unread_object;
 use crate::judging::judge;
@@ -107,7 +106,7 @@ pub(crate) fn add_messages<'a, A: Allocator + Copy>(
             }
         };
         let message = element.whole;
-        good &= add_message(form, text, Label::Offset(place), &judge_element(&element))?;
+        good &= add_message(form, text, Label::Offset(place), &judge(message))?;
         place += message.len() as u64;
         rest = &rest[message.len()..];
     }

@@ -1,9 +1,6 @@
-use Rattle.std.proofs.Common.{◌≡◌, ◌++◌, ◌∙◌, ap, false, subst, sym, true}
-use Rattle.std.specs.Prelude.{string_bytes}
+use Rattle.std.proofs.Common.{◌≡◌, ◌∙◌, false, sym, true}
 use Rattle.tcap_judging.proofs.ResyncCuts.{rest-from}
 use Rattle.tcap_judging.proofs.ResyncSteps.{first-doubts, first-reads}
-use Rattle.tcap_judging.specs.EntryText.{message_text}
-use Rattle.tcap_judging.specs.Label.{offset}
 use Rattle.tcap_judging.specs.NameViews.{form_view}
 use Rattle.tcap_words.specs.Show.{show_is_good}
 use Rattle.tcap_judging.proofs.resync.add_first.Goals as goal
