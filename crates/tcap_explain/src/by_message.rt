@@ -1,6 +1,6 @@
 //! Where the fault of a message is that was read: what is known of it isn't read again.
 
-ghost use Rattle.std.specs.Prelude.{◌≡◌, ◌≤◌, ◌^◌, ◌<◌, length, true, IfSome};
+ghost use Rattle.std.specs.Prelude.{◌≡◌, ◌≤◌, length, true, IfSome};
 ghost use Rattle.ber_core.specs.Element.{IsElement, depth_limit};
 ghost use Rattle.ber_core.specs.SequenceReading.{is_tag};
 ghost use Rattle.ber_core.specs.Views.{parts};

@@ -1,11 +1,11 @@
 //! Where the portions of a message begin in its octets.
 
 ghost use Rattle.std.specs.Prelude.{◌≡◌, ◌+◌, ◌≤◌, true, [], ◌∷◌, length};
+ghost use Rattle.ber_core.specs.Element.{IsElement, depth_limit};
 ghost use Rattle.ber_core.specs.Place.{head_length};
 ghost use Rattle.ber_core.specs.SequenceReading.{is_tag};
-ghost use Rattle.ber_core.specs.Way.{inside, way_to};
-ghost use Rattle.ber_core.specs.Element.{IsElement, depth_limit};
 ghost use Rattle.ber_core.specs.Views.{parts};
+ghost use Rattle.ber_core.specs.Way.{inside, way_to};
 
 use ber_core::{Element, read_element, read_head};
 

@@ -3,8 +3,7 @@ use Rattle.ber_core.specs.Views.{parts}
 use Rattle.tcap_pdu.specs.FrameViews.{message}
 use Rattle.tcap_words.specs.Verdict.{message_verdict}
 use Rattle.tcap_words.specs.declared.verdict.Verdict.TheVariants.{Component}
-use Rattle.tcap_explain.proofs.MessageRead.{explained-component, message-read, tag-is, verdict-is}
-use Rattle.tcap_explain.proofs.VerdictLemmas.{message-component}
+use Rattle.tcap_explain.proofs.MessageRead.{explained-component, message-read, verdict-is}
 use Rattle.tcap_explain.proofs.by_message.explain_message.Goals as goal
 
 pub returns-in-Component : goal.returns-in-Component

@@ -1,4 +1,4 @@
-use Rattle.std.proofs.Common.{◌≡◌, ◌≤◌, length, sym, refl, ◌∙◌, arith, rules}
+use Rattle.std.proofs.Common.{◌≤◌, sym, refl, ◌∙◌, arith, rules}
 use Rattle.tcap_explain.proofs.MessageRead.{numbered, next-numbered, reached}
 use Rattle.tcap_explain.proofs.WayLemmas.{component-shorter, left-next, left-fault}
 use Rattle.tcap_explain.proofs.by_message.skip_to.Goals as goal
