@@ -234,7 +234,7 @@ fn split_rare<'a>(bytes: &'a [u8]) -> Result<(Component<'a>, &'a [u8]), Componen
     split_component(bytes)
 }
 
-/// The same as `split_component`, where no short Return Result Last stands first: mostly a short Invoke.
+/// `split_component`, where no short Return Result Last stands first: mostly a short Invoke.
 #[inline(never)]
 fn split_unlike_result<'a>(bytes: &'a [u8]) -> Result<(Component<'a>, &'a [u8]), ComponentFault>
     ensures value { Reads (λ r. (component_parts r.0, r.1.now)) result (component_at bytes.now) }
