@@ -27,7 +27,8 @@ use tcap_pdu::TransId;
 /// each             by a prearranged finish, by u_abort of the user
 /// ```
 ///
-/// Each event is a method of `Phase`, which says by `After` whether the dialogue is over.
+/// Each event is a method of `Phase`, which says by `After` whether the dialogue is over; but for a faulty message and
+/// the idle limit, by which it is, whatever its state.
 #[derive(Clone, Copy, Debug, PartialEq, Eq)]
 pub enum State {
     /// No message was sent or received: Idle.
