@@ -1,7 +1,7 @@
 -- The timers that are kept beside the rows: one for each Sent or Waiting row, by time, then number.
 use Rattle.std.specs.Prelude.{◌≡◌, ℕ, zero, suc, ℤ, ◌≤◌, ◌==◌, ◌&&◌, ◌||◌, Bool, true, false, nat_lt, nat_le, List, [], ◌∷◌, length, filter_map, slice_get, Option, Some, None, if◌then◌else◌}
 use Rattle.std.specs.List.Sorted.{IsPartitionPoint}
-use Rattle.tcap_invocation.specs.declared.invocations.few_timers.First.{First}
+use Rattle.tcap_invocation.specs.declared.invocations.few.First.{First}
 use Rattle.tcap_invocation.specs.declared.invocations.lapse.Lapse.{Lapse}
 use Rattle.tcap_invocation.specs.declared.invocations.timers.Timer.{Timer}
 use Rattle.tcap_invocation.specs.declared.stage.Stage.{Stage}

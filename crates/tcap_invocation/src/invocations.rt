@@ -2,15 +2,17 @@
 
 // Hints to inline: each step of an engine runs through it; docs/PERF.md says what the whole of it inlined gains.
 
-ghost use Rattle.std.specs.Prelude.{◌≡◌, ◌↔◌, ◌≤◌, min, length, [], None, is_some, IsSome, IfSome, IfNone, OnOk, OnErr, IsErrOf, IsOkUnless, IsTrue, Err};
+ghost use Rattle.std.specs.Prelude.{◌≡◌, ◌↔◌, ◌≤◌, min, length, [], None, is_some, IsSome, IfSome, IfNone, OnOk, OnErr, IsErrOf, IsOkUnless, IsTrue, Err, ◌<◌};
 ghost use Rattle.tcap_invocation.specs.Invocations.{InvocationList, AllBelow, IsSound, entry_at, sent_at, add_fault, added, after_sent};
 ghost use Rattle.tcap_invocation.specs.Stage.{moment_limit, IsTimeout};
 ghost use Rattle.tcap_invocation.specs.Timers.{next_timer_at};
+ghost use Rattle.tcap_invocation.specs.Lapses.{due_at};
+ghost use Rattle.tcap_invocation.specs.Expiries.{RunsOut, first_expiry_at, after_expiry};
 
 pub(crate) mod answers;
 pub(crate) mod closing;
 mod few;
-mod few_timers;
+mod few_lapses;
 mod indexed;
 pub(crate) mod lapse;
 mod rows;
@@ -19,6 +21,7 @@ mod timers;
 use crate::class::Class;
 use crate::fault::AddFault;
 use crate::stage::{MAX_MOMENT, Stage};
+use lapse::Expiry;
 use rows::Rows;
 use std::alloc::{AllocError, Allocator, Global};
 use std::marker::Model;
@@ -195,6 +198,37 @@ impl<A: Allocator + Copy> Invocations<A> {
         ensures { result ≡ next_timer_at self.now.rows }
     {
         self.rows.next_timer()
+    }
+
+    /// How many Sent invocations have a deadline at most the clock.
+    #[inline(always)]
+    pub fn due_count(&self, clock: u64) -> usize
+        ensures { result ≡ length (due_at clock self.now.rows) }
+    {
+        self.rows.due_count(clock)
+    }
+
+    /// The first timer by its moment, then number, runs out, if its moment is at most the clock: the invocation
+    /// lapses, or each identifier whose wait is over at the clock is free. What it was of, or nothing where no moment
+    /// is reached. It takes no memory.
+    #[inline(always)]
+    pub fn expire_first(&mut self, clock: u64) -> Option<Expiry>
+        ensures expiry { result ≡ first_expiry_at clock self.old.rows }
+        ensures list { self.new ≡ after_expiry self.old clock result }
+        // What lapses and what is left from then on is the same.
+        ensures rest { RunsOut clock result self.old self.new }
+    {
+        self.expire_row(clock)
+    }
+
+    /// `expire_first`, by the rows.
+    #[inline(always)]
+    fn expire_row(&mut self, clock: u64) -> Option<Expiry>
+        ensures expiry { result ≡ first_expiry_at clock self.old.rows }
+        ensures list { self.new ≡ after_expiry self.old clock result }
+        ensures sound { IsSound self.old }
+    {
+        self.rows.expire_first(clock)
     }
 }
 

@@ -2,10 +2,9 @@
 
 // Hints to inline: each step of an engine runs through it; docs/PERF.md says what the whole of it inlined gains.
 
-ghost use Rattle.std.specs.Prelude.{◌≡◌, ◌≢◌, ◌<◌, [], ◌∷◌, length, OnOk, OnErr, IfOk, IfSome};
-ghost use Rattle.tcap_invocation.specs.Expiries.{RunsOut, first_expiry_at, after_expiry};
+ghost use Rattle.std.specs.Prelude.{◌≡◌, ◌≢◌, ◌<◌, [], ◌∷◌, OnOk, OnErr, IfOk, IfSome};
 ghost use Rattle.tcap_invocation.specs.Invocations.{IsSound};
-ghost use Rattle.tcap_invocation.specs.Lapses.{due_at, told_at, first_due_at, lapse_of, lapse_at, after_lapse, after_lapse_one, after_free_due};
+ghost use Rattle.tcap_invocation.specs.Lapses.{told_at, first_due_at, lapse_of, lapse_at, after_lapse, after_lapse_one, after_free_due};
 
 use super::{Invocation, Invocations};
 use ber_core::OutOfMemory;
@@ -41,37 +40,6 @@ impl<A: Allocator + Copy> Invocations<A> {
         ensures memory { OnErr result (told_at clock self.old.rows ≢ []) }
     {
         self.rows.lapse(clock)
-    }
-
-    /// The first timer by its moment, then number, runs out, if its moment is at most the clock: the invocation
-    /// lapses, or each identifier whose wait is over at the clock is free. What it was of, or nothing where no moment
-    /// is reached. It takes no memory.
-    #[inline(always)]
-    pub fn expire_first(&mut self, clock: u64) -> Option<Expiry>
-        ensures expiry { result ≡ first_expiry_at clock self.old.rows }
-        ensures list { self.new ≡ after_expiry self.old clock result }
-        // What lapses and what is left from then on is the same.
-        ensures rest { RunsOut clock result self.old self.new }
-    {
-        self.expire_row(clock)
-    }
-
-    /// `expire_first`, by the rows.
-    #[inline(always)]
-    fn expire_row(&mut self, clock: u64) -> Option<Expiry>
-        ensures expiry { result ≡ first_expiry_at clock self.old.rows }
-        ensures list { self.new ≡ after_expiry self.old clock result }
-        ensures sound { IsSound self.old }
-    {
-        self.rows.expire_first(clock)
-    }
-
-    /// How many Sent invocations have a deadline at most the clock.
-    #[inline(always)]
-    pub fn due_count(&self, clock: u64) -> usize
-        ensures { result ≡ length (due_at clock self.now.rows) }
-    {
-        self.rows.due_count(clock)
     }
 
     /// Of these the first by deadline, then number.

@@ -12,7 +12,7 @@ ghost use Rattle.tcap_invocation.specs.Timers.{next_timer_at};
 
 use super::indexed::Indexed;
 use super::lapse::{Expiry, Lapse};
-use super::{Invocation, Row, few, few_timers};
+use super::{Invocation, Row, few, few_lapses};
 use crate::stage::Stage;
 use ber_core::OutOfMemory;
 use std::alloc::{AllocError, Allocator};
@@ -163,7 +163,7 @@ impl<A: Allocator + Copy> Rows<A> {
         ensures { result ≡ next_timer_at self.now }
     {
         match &self.many {
-            None => few_timers::next_timer(&self.few),
+            None => few::next_timer(&self.few),
             Some(many) => many.next_timer(),
         }
     }
@@ -174,7 +174,7 @@ impl<A: Allocator + Copy> Rows<A> {
         ensures { result ≡ length (due_at clock self.now) }
     {
         match &self.many {
-            None => few_timers::due_count(&self.few, clock),
+            None => few::due_count(&self.few, clock),
             Some(many) => many.due_count(clock),
         }
     }
@@ -184,7 +184,7 @@ impl<A: Allocator + Copy> Rows<A> {
         ensures { result ≡ first_due_at clock self.now }
     {
         match &self.many {
-            None => few_timers::first_due(&self.few, clock),
+            None => few_lapses::first_due(&self.few, clock),
             Some(many) => many.first_due(clock),
         }
     }
@@ -198,7 +198,7 @@ impl<A: Allocator + Copy> Rows<A> {
         ensures memory { OnErr result (told_at clock self.old ≢ []) }
     {
         match &mut self.many {
-            None => few_timers::lapse(&mut self.few, clock),
+            None => few_lapses::lapse(&mut self.few, clock),
             Some(many) => many.lapse(clock),
         }
     }
@@ -212,7 +212,7 @@ impl<A: Allocator + Copy> Rows<A> {
         ensures sorted { AreSorted self.old }
     {
         match &mut self.many {
-            None => few_timers::expire_first(&mut self.few, clock),
+            None => few::expire_first(&mut self.few, clock),
             Some(many) => many.expire_first(clock),
         }
     }
@@ -222,7 +222,7 @@ impl<A: Allocator + Copy> Rows<A> {
         ensures { self.new ≡ filter (λ r. is_held clock r.1.stage) self.old }
     {
         match &mut self.many {
-            None => few_timers::free_due(&mut self.few, clock),
+            None => few::free_due(&mut self.few, clock),
             Some(many) => many.free_due(clock),
         }
     }

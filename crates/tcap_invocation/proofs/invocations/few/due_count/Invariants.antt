@@ -1,6 +1,6 @@
 use Rattle.std.proofs.Common.{◌≡◌, ◌+◌, ◌≤◌, drop, length}
 use Rattle.tcap_invocation.specs.Lapses.{due_at}
-use Rattle.tcap_invocation.proofs.invocations.few_timers.due_count.Given as goal
+use Rattle.tcap_invocation.proofs.invocations.few.due_count.Given as goal
 
 abbrev pub invariant-loop-row : goal.invariant-loop-row
 invariant-loop-row l = record {

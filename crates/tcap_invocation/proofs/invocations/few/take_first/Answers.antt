@@ -8,7 +8,7 @@ use Rattle.tcap_invocation.specs.Invocations.{Row, without}
 use Rattle.tcap_invocation.specs.Order.{first_of}
 use Rattle.tcap_invocation.specs.TimerList.{lapse_at_time, timers_at}
 use Rattle.tcap_invocation.proofs.FirstTimerLemmas.{at-lapse, first-some, lapse-same, remove-at, remove-last, some-same}
-use Rattle.tcap_invocation.proofs.invocations.few_timers.take_first.Goals as goal
+use Rattle.tcap_invocation.proofs.invocations.few.take_first.Goals as goal
 
 pub returns-then-first-len-clause-rows : goal.returns-then-first-len-clause-rows
 returns-then-first-len-clause-rows g c =

@@ -2,7 +2,7 @@ use Rattle.std.proofs.Common.{◌≡◌, ◌<◌, refl, arith, rules, add-one, l
 use Rattle.std.proofs.lemmas.Option.{slice_get_read}
 use Rattle.tcap_invocation.specs.Invocations.{Row}
 use Rattle.tcap_invocation.proofs.FirstTimerLemmas.{first-step, first-all}
-use Rattle.tcap_invocation.proofs.invocations.few_timers.first_timer.Goals as goal
+use Rattle.tcap_invocation.proofs.invocations.few.first_timer.Goals as goal
 
 pub loop-place-preserved : goal.loop-place-preserved
 loop-place-preserved g c =

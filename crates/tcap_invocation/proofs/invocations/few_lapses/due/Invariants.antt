@@ -1,6 +1,6 @@
 use Rattle.std.proofs.Common.{◌≡◌, ◌++◌, drop, length, vec_capacity}
 use Rattle.tcap_invocation.specs.Lapses.{due_at}
-use Rattle.tcap_invocation.proofs.invocations.few_timers.due.Given as goal
+use Rattle.tcap_invocation.proofs.invocations.few_lapses.due.Given as goal
 
 abbrev pub invariant-loop-row : goal.invariant-loop-row
 invariant-loop-row g l = record {

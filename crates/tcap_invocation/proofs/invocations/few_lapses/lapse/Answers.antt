@@ -6,7 +6,7 @@ use Rattle.tcap_invocation.specs.Invocations.{Row}
 use Rattle.tcap_invocation.specs.Lapses.{due_at, told_at, stays}
 use Rattle.tcap_invocation.proofs.FewLemmas.{told_at-sorted, told_at-due}
 use Rattle.tcap_invocation.proofs.ListLemmas.{OnErr-of}
-use Rattle.tcap_invocation.proofs.invocations.few_timers.lapse.Goals as goal
+use Rattle.tcap_invocation.proofs.invocations.few_lapses.lapse.Goals as goal
 
 pub returns-in_err-told-clause-memory : goal.returns-in_err-told-clause-memory
 returns-in_err-told-clause-memory g c =

@@ -1,7 +1,7 @@
 use Rattle.std.proofs.Common.{◌≡◌, ◌∙◌, [], ap, sym, drop, rules, arith}
 use Rattle.std.proofs.Math.ListN.{drop_of_length-le}
 use Rattle.tcap_invocation.proofs.FewLemmas.{first_due_from, first_due_from-all}
-use Rattle.tcap_invocation.proofs.invocations.few_timers.first_due.Goals as goal
+use Rattle.tcap_invocation.proofs.invocations.few_lapses.first_due.Goals as goal
 
 pub returns : goal.returns
 returns c =
