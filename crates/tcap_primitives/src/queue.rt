@@ -5,8 +5,7 @@ ghost use Rattle.tcap_primitives.specs.Parts.{total};
 
 pub mod append;
 pub mod cancel;
-pub mod outgoing;
-pub mod room;
+pub mod contents;
 
 use std::alloc::{Allocator, Global};
 use tcap_invocation::Class;

@@ -2,7 +2,6 @@
 
 pub mod outgoing;
 pub mod portions;
-pub mod written;
 
 use tcap_pdu::{DialoguePdu, TransId};
 

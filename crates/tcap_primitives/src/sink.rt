@@ -1,23 +1,20 @@
 //! Where the outputs of a call go.
 
-pub mod known;
+pub mod sent;
 
 ghost use Rattle.std.specs.Prelude.{◌≡◌, ◌+◌, ◌-◌, ◌^◌, ◌≤◌, ◌<◌, ◌++◌, ◌∷◌, [], true, false, Bool, Option, length, map, take, vec_len, vec_capacity, OnOk, OnErr};
 ghost use Rattle.ber_core.specs.Place.{Slice};
-ghost use Rattle.tcap_model.specs.Words.Output as model;
-ghost use Rattle.tcap_pdu.specs.FrameWritten.{written_frame};
 ghost use Rattle.tcap_primitives.specs.IndicationViews.{indicated, indicated_octets, indicated_slices};
 ghost use Rattle.tcap_primitives.specs.OutputViews.{all_shown};
-ghost use Rattle.tcap_primitives.specs.SendingViews.{sending_view};
-ghost use Rattle.tcap_primitives.specs.Slices.{LieIn, LieInPlace, Slices, slices_of};
+ghost use Rattle.tcap_primitives.specs.Slices.{LieIn, LieInPlace, slices_of};
+ghost use Rattle.tcap_primitives.specs.declared.indication.Indication.TheVariants as indication;
 
 use crate::indication::Indication;
 use crate::outbox::Outbox;
 use crate::output::Output;
-use crate::sending::outgoing::Outgoing;
 use std::alloc::{AllocError, Allocator};
 use std::marker::{Model, PhantomData};
-use tcap_address::Address;
+use tcap_component::{Body, Code};
 
 /// Which of the two a sink is.
 pub trait SinkKind {
@@ -63,33 +60,6 @@ impl<'m, A: Allocator + Copy, K: SinkKind> Model for Sink<'m, A, K> {
     ghost Value = { Filled };
 
     ghost view = { λ s. filled_by K.TO_OUTBOX s.vector s.outbox };
-}
-
-/// Appends a message that is sent to this address, of at most 255 octets, for which there is a place.
-// The address is written where the output stands: one that was made before was copied twice, 256 octets each time, 50
-// instructions a message.
-#[inline(always)]
-fn push_sent<'m, A: Allocator + Copy>(
-    vector: &mut Vec<Output<'m, A>, A>,
-    to: &[u8],
-    bytes: Vec<u8, A>,
-)
-    requires to { length to.now ≤ 255 }
-    requires place { vec_len vector.old < vec_capacity vector.old }
-    ensures outputs { all_shown vector.new.items
-        ≡ all_shown vector.old.items ++ model.Output.send to.now bytes.items ∷ [] }
-    ensures slices { map slices_of vector.new.items ≡ map slices_of vector.old.items ++ Slices.none ∷ [] }
-    ensures len { vec_len vector.new ≡ vec_len vector.old + 1 }
-    ensures capacity { vec_capacity vector.new ≡ vec_capacity vector.old }
-{
-    vector.push_reserved(Output::Send {
-        to: Address::empty(),
-        bytes,
-    });
-    let last = vector.len() - 1;
-    if let Output::Send { to: kept, .. } = &mut vector[last] {
-        kept.hold(to);
-    }
 }
 
 impl<'m, A: Allocator + Copy> Sink<'m, A, ToVector> {
@@ -190,25 +160,67 @@ impl<'m, A: Allocator + Copy, K: SinkKind> Sink<'m, A, K> {
         }
     }
 
-    /// Writes a message that goes to this address, of at most 255 octets; there is a place for it.
+    /// Appends a TC-INVOKE indication, for which there is room.
+    // The components that come most have a call of their own: by `tell`, which has all kinds in it, the caller would grow
+    // beyond what the toolchain inlines, and a component took 160 instructions more.
     #[inline(always)]
-    pub fn send(&mut self, to: &[u8], message: &Outgoing<'_>) -> Result<(), AllocError>
-        requires to { length to.now ≤ 255 }
+    pub fn tell_invoked(
+        &mut self,
+        dialogue: Option<u32>,
+        id: i8,
+        linked: Option<i8>,
+        code: Code<'m>,
+        parameter: Option<&'m [u8]>,
+    )
         requires place { 1 ≤ self.old.places }
-        ensures ok { OnOk result (self.new.outputs ≡ self.old.outputs
-            ++ model.Output.send to.now (written_frame (sending_view message.now.sending)) ∷ []) }
-        ensures err { OnErr result (self.new.outputs ≡ self.old.outputs) }
-        ensures places { OnOk result (self.old.places ≤ self.new.places + 1) }
-        ensures place { (portion : Option Slice) (components : Slice)
+        requires octets { indicated_octets (indication.Invoked dialogue id linked code parameter) ≤ self.old.octets }
+        ensures told { self.new.outputs ≡ self.old.outputs
+            ++ indicated (indication.Invoked dialogue id linked code.entry parameter.entry) ∷ [] }
+        ensures places { self.old.places ≤ self.new.places + 1 }
+        ensures octets { self.old.octets ≤ self.new.octets
+            + indicated_octets (indication.Invoked dialogue id linked code.entry parameter.entry) }
+        ensures place { (portion : Option Slice) (components : Slice) → LieIn portion components
+            (indicated_slices (indication.Invoked dialogue id linked code.entry parameter.entry))
             → LieInPlace portion components self.old.slices → LieInPlace portion components self.new.slices }
     {
         if K::TO_OUTBOX {
-            return self.outbox.send(to, message);
+            self.outbox
+                .tell_invoked(dialogue, id, linked, code, parameter);
+        } else {
+            self.vector.push_reserved(Output::Invoked {
+                dialogue,
+                id,
+                linked,
+                code,
+                parameter,
+            });
         }
-        let mut bytes = Vec::with_capacity(*self.vector.allocator(), message.len())?;
-        message.append(&mut bytes);
-        push_sent(&mut self.vector, to, bytes);
-        Ok(())
+    }
+
+    /// Appends a TC-RESULT-L indication, for which there is room.
+    #[inline(always)]
+    pub fn tell_result_last(&mut self, dialogue: u32, number: u64, id: i8, body: Option<Body<'m>>)
+        requires place { 1 ≤ self.old.places }
+        requires octets { indicated_octets (indication.ResultLast dialogue number id body) ≤ self.old.octets }
+        ensures told { self.new.outputs ≡ self.old.outputs
+            ++ indicated (indication.ResultLast dialogue number id body.entry) ∷ [] }
+        ensures places { self.old.places ≤ self.new.places + 1 }
+        ensures octets { self.old.octets ≤ self.new.octets
+            + indicated_octets (indication.ResultLast dialogue number id body.entry) }
+        ensures place { (portion : Option Slice) (components : Slice) → LieIn portion components
+            (indicated_slices (indication.ResultLast dialogue number id body.entry))
+            → LieInPlace portion components self.old.slices → LieInPlace portion components self.new.slices }
+    {
+        if K::TO_OUTBOX {
+            self.outbox.tell_result_last(dialogue, number, id, body);
+        } else {
+            self.vector.push_reserved(Output::ResultLast {
+                dialogue,
+                number,
+                id,
+                body,
+            });
+        }
     }
 
     /// How many outputs it holds.

@@ -1,21 +1,25 @@
-//! Whether a component comes into the queue, and room for it.
+//! What the queue holds: whether a component comes into it, and room for it; all its octets, which go out with a message.
 
 // Hints to inline: each step of an engine runs through it; docs/PERF.md says what the whole of it inlined gains.
 
 // Inlined into each request that queues a component, whose kind is known there: so the match on it folds away,
 // 360 to 570 instructions a step.
 
-ghost use Rattle.std.specs.Prelude.{◌≡◌, ◌+◌, ◌*◌, ◌≤◌, ◌<◌, ◌↔◌, length, None, Some, IsTrue, IfOk, OnOk, IfErr, vec_len, vec_capacity};
+ghost use Rattle.std.specs.Prelude.{◌≡◌, ◌+◌, ◌*◌, ◌≤◌, ◌<◌, ◌↔◌, length, None, Some, IsTrue, IfOk, OnOk, IfErr, vec_len, vec_capacity, []};
 ghost use Rattle.tcap_component.specs.Views.{component_parts};
 ghost use Rattle.tcap_component.specs.Written.{CanWriteComponent, written_component};
 ghost use Rattle.tcap_primitives.specs.QueueRefusals.{written_fault, queue_fault};
 ghost use Rattle.tcap_primitives.specs.FaultViews.{fault_view};
-ghost use Rattle.tcap_primitives.specs.QueueViews.{queue_view};
+ghost use Rattle.tcap_primitives.specs.QueueViews.{queue_view, invoking_view};
+ghost use Rattle.tcap_model.specs.Procedures.QueueRules.{joined, can_go_alone, goes_alone};
+ghost use Rattle.std.specs.Option.{option_map};
+ghost use Rattle.std.specs.List.{list_all};
 
-use super::{MAX_QUEUE, Queue};
+use super::{MAX_QUEUE, Part, Queue};
 use crate::fault::Fault;
 use std::alloc::{AllocError, Allocator};
 use tcap_component::{Component, MAX_REJECT, WriteFault, judge_component};
+use tcap_invocation::Class;
 
 /// The fault of a request whose component can't be written.
 fn fault_of(fault: WriteFault) -> Fault
@@ -85,4 +89,45 @@ impl<A: Allocator + Copy> Queue<A> {
         self.parts.reserve(count)?;
         Ok(())
     }
+
+    /// The octets of all components.
+    #[inline(always)]
+    pub fn all_octets(&self) -> &[u8]
+        ensures { result.now ≡ joined (queue_view self.now) }
+    {
+        &self.octets
+    }
+
+    /// Whether a Unidirectional may carry the components.
+    pub fn can_go_alone(&self) -> bool
+        ensures { result ≡ can_go_alone (queue_view self.now) }
+    {
+        !self.parts.is_empty() && all_go_alone(&self.parts)
+    }
+
+    /// Takes everything out; the room stays.
+    #[inline(always)]
+    pub fn clear(&mut self)
+        ensures { queue_view self.new ≡ [] }
+    {
+        self.octets.clear();
+        self.parts.clear();
+    }
+}
+
+/// Whether a component is no Invoke of another class than 4.
+fn goes_alone(part: &Part) -> bool
+    ensures { result ≡ goes_alone (option_map invoking_view part.now.invoking) }
+{
+    match part.invoking {
+        None => true,
+        Some(invoking) => matches!(invoking.class, Class::Four),
+    }
+}
+
+/// Whether all of them are none.
+fn all_go_alone(parts: &[Part]) -> bool
+    ensures { result ≡ list_all (λ part. goes_alone (option_map invoking_view part.invoking)) parts.now }
+{
+    parts.iter().all(|part| goes_alone(part))
 }
