@@ -10,7 +10,7 @@ ghost use Rattle.tcap_dialogue.specs.Verdicts.{unexpected as unexpected_told};
 ghost use Rattle.tcap_model.specs.Procedures.ComponentHandling.{rejecting as rejecting_told};
 ghost use Rattle.tcap_model.specs.Procedures.Problems.{remote_rejector};
 
-pub mod answers;
+pub mod failures;
 pub mod in_dialogue;
 pub mod message;
 pub mod unidirectional;

@@ -3,9 +3,7 @@
 pub(crate) mod abort;
 pub(crate) mod beginning;
 pub(crate) mod ending;
-pub(crate) mod getters;
 pub(crate) mod kept_address;
-pub(crate) mod lending;
 pub(crate) mod message_length;
 pub(crate) mod messages;
 pub(crate) mod requests;
@@ -16,13 +14,16 @@ pub(crate) mod unidirectional;
 ghost use Rattle.std.specs.Prelude.{◌≡◌, ◌≤◌};
 ghost use Rattle.tcap_invocation.specs.Stage.{moment_limit};
 ghost use Rattle.tcap_model.specs.Table.Dialogue.{fresh_dialogue};
+ghost use Rattle.tcap_reception.specs.StateViews.{state_of};
+ghost use Rattle.tcap_model.specs.Words.State.{peer_of};
 
 use kept_address::KeptAddress;
 use std::alloc::{Allocator, Global};
 use std::marker::Model;
 use tcap_invocation::Invocations;
+use tcap_pdu::TransId;
 use tcap_primitives::{Context, Output, Queue};
-use tcap_reception::Phase;
+use tcap_reception::{Phase, State};
 
 /// What a call gives: what is sent and told, in order, and whether the dialogue is over.
 #[derive(Debug, Drop, PartialEq, Eq)]
@@ -108,5 +109,37 @@ impl<A: Allocator + Copy> Dialogue<A> {
             touched: 0,
             kept: KeptAddress::empty(),
         }
+    }
+
+    /// Its identifier, which is its local transaction identifier.
+    pub fn identifier(&self) -> u32
+        ensures { result ≡ self.now.standing.identifier }
+    {
+        self.identifier
+    }
+
+    /// Its state.
+    pub fn state(&self) -> State
+        ensures { result ≡ state_of self.now.standing.state }
+    {
+        self.phase.state()
+    }
+
+    /// The peer's transaction identifier, which is known in Received and in Active.
+    pub fn peer(&self) -> Option<TransId>
+        ensures { result ≡ peer_of self.now.standing.state }
+    {
+        self.phase.peer()
+    }
+
+    /// The address to which its messages go: that to which it began, or from which the Begin came that
+    /// made it, or the first Continue to it, if it began: its octets, 0 to 255, none before there is one. It
+    /// takes no memory (own).
+    // One call of another, and called from other crates.
+    #[inline]
+    pub fn kept(&self) -> &[u8]
+        ensures { result.now ≡ self.now.kept }
+    {
+        self.kept.octets()
     }
 }

@@ -1,32 +1,31 @@
-//! One component of a message to a dialogue.
+//! One component of a message to a dialogue: an Invoke or a result; of all others see failures.rt.
 
 // The handlers of Invokes and results are inlined into the two loops over components: as calls of their own they took
 // what they tell through memory, 270 to 420 instructions a step. Those of errors, Rejects and faults are rarer, and stand
 // apart: with them the toolchain would inline none, 80 to 170 a step.
 
 ghost use Rattle.std.specs.Option.{option_map};
-ghost use Rattle.std.specs.Prelude.{◌≡◌, ◌+◌, ◌<◌, ◌≤◌, length, Some, None, Bool, true, false, Ok, Err, option_copied};
-ghost use Rattle.tcap_component.specs.Component.ComponentParts.{reject_back};
-ghost use Rattle.tcap_component.specs.Views.{problem_parts, body_parts, code_parts, component_parts, fault_parts};
+ghost use Rattle.std.specs.Prelude.{◌≡◌, ◌+◌, ◌<◌, ◌≤◌, length, Some, None, Bool, true, false, Ok, Err, option_copied, ◌++◌, ◌∷◌, [], Option};
+ghost use Rattle.tcap_component.specs.Views.{body_parts, code_parts, component_parts};
 ghost use Rattle.tcap_component.specs.declared.component.Component.TheVariants as component;
-ghost use Rattle.tcap_dialogue.specs.HandledViews.{IsHandled, AreNone};
-ghost use Rattle.tcap_primitives.specs.IndicationViews.{body_octets, code_octets, component_octets, optional_octets};
-ghost use Rattle.tcap_primitives.specs.Slices.{AreOf, result_of};
+ghost use Rattle.tcap_dialogue.specs.HandledViews.{IsHandled};
+ghost use Rattle.tcap_primitives.specs.IndicationViews.{body_octets, code_octets, component_octets, optional_octets, indicated, indicated_slices};
+ghost use Rattle.tcap_primitives.specs.Slices.{AreOf, result_of, LieIn, LieInPlace};
 ghost use Rattle.tcap_dialogue.specs.FirstComponent.{IsFirstTaken};
-ghost use Rattle.tcap_dialogue.specs.Verdicts.{result_handled};
-ghost use Rattle.tcap_invocation.specs.Answers.{after_received, after_reject};
+ghost use Rattle.tcap_dialogue.specs.Verdicts.{result_handled, result_judged};
+ghost use Rattle.tcap_invocation.specs.Answers.{after_received};
 ghost use Rattle.tcap_invocation.specs.Class.{return_result};
-ghost use Rattle.tcap_invocation.specs.Class.Received.{return_error};
 ghost use Rattle.tcap_invocation.specs.Stage.{moment_limit};
-ghost use Rattle.tcap_model.specs.Procedures.ComponentHandling.{handled, subject_of, invoke_handled, error_handled, reject_handled, remote};
+ghost use Rattle.tcap_model.specs.Procedures.ComponentHandling.{handled, subject_of, invoke_handled};
 ghost use Rattle.tcap_model.specs.Table.Dialogue.{sent_by_rows};
-ghost use Rattle.tcap_model.specs.Table.TableMove.{after_item};
+ghost use Rattle.ber_core.specs.Place.{Slice};
+ghost use Rattle.tcap_primitives.specs.declared.indication.Indication.TheVariants as indication;
 
-use super::answers::{error_judged, reject_judged, result_judged};
-use super::{Reject, rejecting, remote_rejector};
+use super::failures::{take_error, take_reject_back, take_unreadable};
+use super::{Reject, rejecting, unexpected};
 use std::alloc::Allocator;
-use tcap_component::{Body, Code, Component, ComponentFault, Problem, read_component};
-use tcap_invocation::Invocations;
+use tcap_component::{Body, Code, Component, Problem, read_component};
+use tcap_invocation::{Invocations, Verdict};
 use tcap_primitives::{Indication, Sink, SinkKind};
 
 /// An Invoke.
@@ -57,6 +56,65 @@ fn take_invoke<'m, A: Allocator + Copy, K: SinkKind>(
     None
 }
 
+/// TC-RESULT-NL indication.
+// It is rarer than TC-RESULT-L, and stands apart.
+#[inline(never)]
+fn tell_result_more<'m, A: Allocator + Copy, K: SinkKind>(
+    dialogue: u32,
+    number: u64,
+    id: i8,
+    body: Option<Body<'m>>,
+    sink: &mut Sink<'m, A, K>,
+)
+    requires place { 1 ≤ sink.old.places }
+    requires octets { body_octets body ≤ sink.old.octets }
+    ensures told { sink.new.outputs ≡ sink.old.outputs
+        ++ indicated (indication.ResultMore dialogue number id body.entry) ∷ [] }
+    ensures places { sink.old.places ≤ sink.new.places + 1 }
+    ensures octets { sink.old.octets ≤ sink.new.octets + body_octets body.entry }
+    ensures place { (portion : Option Slice) (components : Slice) → LieIn portion components
+        (indicated_slices (indication.ResultMore dialogue number id body.entry))
+        → LieInPlace portion components sink.old.slices → LieInPlace portion components sink.new.slices }
+{
+    sink.tell(Indication::ResultMore {
+        dialogue,
+        number,
+        id,
+        body,
+    });
+}
+
+/// A Return Result, Last or not, by the verdict on it (Q.774, Component handling).
+#[inline(always)]
+fn result_judged<'m, A: Allocator + Copy, K: SinkKind>(
+    dialogue: u32,
+    id: i8,
+    body: Option<Body<'m>>,
+    last: bool,
+    verdict: Verdict,
+    sink: &mut Sink<'m, A, K>,
+) -> Option<Reject>
+    requires room { 1 ≤ sink.old.places }
+    requires octets { body_octets body ≤ sink.old.octets }
+    ensures handled { IsHandled sink.old sink.new result (AreOf (result_of last id body.entry)) (body_octets body.entry)
+        (result_judged dialogue id (option_map body_parts body.entry) last verdict) }
+{
+    match verdict {
+        Verdict::Good(number) => {
+            if last {
+                sink.tell_result_last(dialogue, number, id, body);
+            } else {
+                tell_result_more(dialogue, number, id, body, sink);
+            }
+            None
+        }
+        Verdict::Unexpected(number) => {
+            unexpected(dialogue, number, id, Problem::unexpected_result(), sink)
+        }
+        Verdict::Unknown => rejecting(dialogue, id, Problem::unrecognized_result(), sink),
+    }
+}
+
 /// A Return Result, Last or not.
 #[inline(always)]
 fn take_result<'m, A: Allocator + Copy, K: SinkKind>(
@@ -79,115 +137,6 @@ fn take_result<'m, A: Allocator + Copy, K: SinkKind>(
 {
     let verdict = invocations.on_result(id, last, clock);
     result_judged(dialogue, id, body, last, verdict, sink)
-}
-
-/// A Return Error.
-#[inline(never)]
-fn take_error<'m, A: Allocator + Copy, K: SinkKind>(
-    invocations: &mut Invocations<A>,
-    dialogue: u32,
-    clock: u64,
-    id: i8,
-    code: Code<'m>,
-    parameter: Option<&'m [u8]>,
-    sink: &mut Sink<'m, A, K>,
-) -> Option<Reject>
-    requires clock { clock ≤ moment_limit }
-    requires room { 1 ≤ sink.old.places }
-    requires octets { code_octets code + optional_octets parameter ≤ sink.old.octets }
-    ensures handled { IsHandled sink.old sink.new result
-        (AreOf (component.ErrorBack id code.entry parameter.entry))
-        (code_octets code.entry + optional_octets parameter.entry)
-        (error_handled (Some dialogue) (sent_by_rows dialogue invocations.old (Some id)) id
-        (code_parts code.entry) (option_copied parameter.entry)) }
-    ensures list { invocations.new ≡ after_received invocations.old id return_error clock }
-{
-    let verdict = invocations.on_error(id, clock);
-    error_judged(dialogue, id, code, parameter, verdict, sink)
-}
-
-/// A Reject with an identifier.
-#[inline(always)]
-fn take_reject<'m, A: Allocator + Copy, K: SinkKind>(
-    invocations: &mut Invocations<A>,
-    dialogue: u32,
-    id: i8,
-    problem: Problem,
-    sink: &mut Sink<'m, A, K>,
-) -> Option<Reject>
-    requires room { 1 ≤ sink.old.places }
-    ensures handled { IsHandled sink.old sink.new result AreNone 0 (reject_handled (Some dialogue)
-        (sent_by_rows dialogue invocations.old (Some id)) (Some id) (problem_parts problem)) }
-    ensures list { invocations.new ≡ after_reject invocations.old id (problem_parts problem).kind }
-{
-    let closed = invocations.on_reject(id, problem.kind());
-    reject_judged(dialogue, id, problem, closed, sink)
-}
-
-/// A Reject without identifier.
-#[inline(always)]
-fn take_unmatched_reject<'m, A: Allocator + Copy, K: SinkKind>(
-    dialogue: u32,
-    problem: Problem,
-    sink: &mut Sink<'m, A, K>,
-) -> Option<Reject>
-    requires room { 1 ≤ sink.old.places }
-    ensures handled { IsHandled sink.old sink.new result AreNone 0
-        (remote (Some dialogue) None (problem_parts problem)) }
-{
-    sink.tell(Indication::RemoteReject {
-        dialogue: Some(dialogue),
-        id: None,
-        problem,
-        by: remote_rejector(problem),
-    });
-    None
-}
-
-/// A component that can't be read.
-#[inline(never)]
-fn take_unreadable<'m, A: Allocator + Copy, K: SinkKind>(
-    dialogue: u32,
-    fault: ComponentFault,
-    sink: &mut Sink<'m, A, K>,
-) -> Option<Reject>
-    requires room { 1 ≤ sink.old.places }
-    ensures handled { IsHandled sink.old sink.new result AreNone 0
-        (handled (Some dialogue) None (Err (fault_parts fault))) }
-{
-    sink.tell(Indication::LocalReject {
-        dialogue: Some(dialogue),
-        id: fault.id,
-        problem: fault.problem,
-    });
-    if fault.was_reject {
-        None
-    } else {
-        Some(Reject {
-            id: fault.id,
-            problem: fault.problem,
-        })
-    }
-}
-
-/// A Reject, which may be without identifier.
-#[inline(never)]
-fn take_reject_back<'m, A: Allocator + Copy, K: SinkKind>(
-    invocations: &mut Invocations<A>,
-    dialogue: u32,
-    id: Option<i8>,
-    problem: Problem,
-    sink: &mut Sink<'m, A, K>,
-) -> Option<Reject>
-    requires room { 1 ≤ sink.old.places }
-    ensures handled { IsHandled sink.old sink.new result AreNone 0 (handled (Some dialogue)
-        (sent_by_rows dialogue invocations.old id) (Ok (reject_back id (problem_parts problem)))) }
-    ensures list { invocations.new ≡ after_item 0 invocations.old (Ok (reject_back id (problem_parts problem))) }
-{
-    match id {
-        Some(id) => take_reject(invocations, dialogue, id, problem, sink),
-        None => take_unmatched_reject(dialogue, problem, sink),
-    }
 }
 
 /// The octets of a component portion that are left.

@@ -14,15 +14,16 @@ ghost use Rattle.tcap_invocation.specs.Closing.{ended_at};
 ghost use Rattle.tcap_model.specs.Procedures.ComponentHandling.{uni_told};
 ghost use Rattle.tcap_invocation.specs.Stage.{moment_limit};
 ghost use Rattle.tcap_primitives.specs.Slices.{LieInPlace};
+ghost use Rattle.tcap_primitives.specs.IndicationViews.{indicated_octets};
 
 use crate::component_handling::Reject;
 use crate::component_handling::in_dialogue::{Left, take_first};
 use crate::component_handling::unidirectional::tell_first;
-use ber_core::take_short;
+use ber_core::{OutOfMemory, take_short};
 use std::alloc::{AllocError, Allocator};
 use tcap_component::{Components, MAX_REJECT};
 use tcap_invocation::Invocations;
-use tcap_primitives::{Queue, Sink, SinkKind};
+use tcap_primitives::{Indication, Queue, Sink, SinkKind};
 
 /// The most elements for which room is taken, whatever they are.
 const FEW: usize = 8;
@@ -129,6 +130,32 @@ fn has_reject_room<A: Allocator + Copy>(queue: &Queue<A>, count: usize) -> bool
 {
     queue.has_room(count.saturating_mul(MAX_REJECT))
         && count <= queue.parts.capacity() - queue.parts.len()
+}
+
+/// Makes room for a message that is told so, with its components and the Rejects that answer them.
+#[inline(always)]
+pub(crate) fn reserve_message<'m, A: Allocator + Copy, K: SinkKind>(
+    queue: &mut Queue<A>,
+    told: &Indication<'m>,
+    components: &[u8],
+    sink: &mut Sink<'m, A, K>,
+) -> Result<(), OutOfMemory>
+    ensures same { queue_view queue.new ≡ queue_view queue.old }
+    ensures octets { OnOk result (vec_len queue.new.octets + 8 * length (components_of components.now)
+        ≤ vec_capacity queue.new.octets) }
+    ensures parts { OnOk result (vec_len queue.new.parts + length (components_of components.now)
+        ≤ vec_capacity queue.new.parts) }
+    ensures still { sink.new.outputs ≡ sink.old.outputs }
+    ensures places { OnOk result (1 + length (components_of components.now) ≤ sink.new.places) }
+    ensures room { OnOk result (indicated_octets told.now + length components.now ≤ sink.new.octets) }
+    ensures place { (portion : Option Slice) (other : Slice) → LieInPlace portion other sink.old.slices
+        → LieInPlace portion other sink.new.slices }
+{
+    let items = room_for(components);
+    let octets = told.octet_count().saturating_add(components.len());
+    sink.reserve(items.saturating_add(1), octets)?;
+    reserve_rejects(queue, components, items)?;
+    Ok(())
 }
 
 /// Queues a Reject, if there is one and it fits; there is room for it.

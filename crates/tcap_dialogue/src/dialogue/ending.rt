@@ -1,16 +1,24 @@
-//! The end of a dialogue.
+//! The end of a dialogue: by an End that is received, and what is told of the invocations that are left at any end.
 
 // Hints to inline: each step of an engine runs through it; docs/PERF.md says what the whole of it inlined gains.
 
-ghost use Rattle.std.specs.Prelude.{◌≡◌, ◌+◌, ◌≤◌, ◌++◌, Option, length};
+ghost use Rattle.std.specs.Prelude.{◌≡◌, ◌+◌, ◌≤◌, ◌++◌, Option, length, ◌<◌, true, option_copied, OnOk, OnErr};
 ghost use Rattle.ber_core.specs.Place.{Slice};
 ghost use Rattle.tcap_invocation.specs.Closing.{ended_at};
-ghost use Rattle.tcap_model.specs.Table.TableMove.{ended_told};
-ghost use Rattle.tcap_primitives.specs.Slices.{LieInPlace};
+ghost use Rattle.tcap_model.specs.Table.TableMove.{ended_told, ended_by, walked_in};
+ghost use Rattle.tcap_primitives.specs.Slices.{LieInPlace, PartsLieIn};
+ghost use Rattle.tcap_dialogue.specs.StepViews.{StepsTo, outcome};
+ghost use Rattle.tcap_invocation.specs.Stage.{moment_limit};
+ghost use Rattle.tcap_model.specs.Procedures.PortionRules.PortionVerdict.{normal};
+ghost use Rattle.tcap_model.specs.Procedures.PortionRules.{portion_verdict};
 
+use super::Dialogue;
+use crate::component_handling::message::{handle_in_end, room_for};
+use ber_core::OutOfMemory;
 use std::alloc::Allocator;
 use tcap_invocation::Invocations;
-use tcap_primitives::{Indication, Sink, SinkKind};
+use tcap_primitives::{Indication, Sink, SinkKind, Why};
+use tcap_reception::{PortionVerdict, judge_portion};
 
 /// The dialogue is over: tells each of its invocations that is Queued or Sent as ended, by number, and
 /// takes it out; there is room for all of them.
@@ -35,5 +43,76 @@ pub(crate) fn tell_ended<'m, A: Allocator + Copy, K: SinkKind>(
             number,
             id,
         });
+    }
+}
+
+impl<A: Allocator + Copy> Dialogue<A> {
+    /// An End whose dialogue portion is as it should be: it is told with its components, and then the
+    /// dialogue is over. All room is found first.
+    fn end_normal<'m, K: SinkKind>(
+        &mut self,
+        context: Option<&'m [u8]>,
+        info: &'m [u8],
+        components: &'m [u8],
+        clock: u64,
+        sink: &mut Sink<'m, A, K>,
+    ) -> Result<(), OutOfMemory>
+        requires { clock ≤ moment_limit }
+        ensures ok { OnOk result (StepsTo sink.old.outputs sink.new.outputs true self.new
+            (outcome (ended_by self.old (normal (option_copied context.entry) info.now)
+            (walked_in clock self.old components.now)))) }
+        ensures err { OnErr result (self.new ≡ self.old) }
+        ensures still { OnErr result (sink.new.outputs ≡ sink.old.outputs) }
+        ensures kept { self.new.standing.identifier ≡ self.old.standing.identifier }
+        ensures place { (portion : Option Slice) → PartsLieIn 0x61 context.entry info.entry portion
+            → LieInPlace portion components.entry sink.old.slices → LieInPlace portion components.entry sink.new.slices }
+    {
+        let told = Indication::End {
+            dialogue: self.identifier,
+            context,
+            info,
+        };
+        let count = room_for(components)
+            .saturating_add(self.invocations.open_count())
+            .saturating_add(1);
+        let octets = told.octet_count().saturating_add(components.len());
+        sink.reserve(count, octets)?;
+        sink.tell(told);
+        handle_in_end(
+            self.identifier,
+            clock,
+            components,
+            &mut self.invocations,
+            sink,
+        );
+        tell_ended(self.identifier, &mut self.invocations, sink);
+        Ok(())
+    }
+
+    /// An End (Q.774, Dialogue end): the dialogue is over.
+    #[inline(always)]
+    pub(super) fn receive_end<'m, K: SinkKind>(
+        &mut self,
+        dialogue: Option<&'m [u8]>,
+        components: &'m [u8],
+        clock: u64,
+        sink: &mut Sink<'m, A, K>,
+    ) -> Result<(), OutOfMemory>
+        requires { clock ≤ moment_limit }
+        ensures ok { OnOk result (StepsTo sink.old.outputs sink.new.outputs true self.new
+            (outcome (ended_by self.old (portion_verdict self.old.standing.state self.old.standing.context
+            (option_copied dialogue.entry)) (walked_in clock self.old components.now)))) }
+        ensures err { OnErr result (self.new ≡ self.old) }
+        ensures still { OnErr result (sink.new.outputs ≡ sink.old.outputs) }
+        ensures kept { self.new.standing.identifier ≡ self.old.standing.identifier }
+        ensures place { LieInPlace dialogue.entry components.entry sink.old.slices
+            → LieInPlace dialogue.entry components.entry sink.new.slices }
+    {
+        match judge_portion(&self.phase, &self.context, dialogue) {
+            PortionVerdict::Normal { context, info } => {
+                self.end_normal(context, info, components, clock, sink)
+            }
+            PortionVerdict::Abnormal => self.abort_provider(Why::Abnormal, sink),
+        }
     }
 }

@@ -1,15 +1,18 @@
-//! The address that a dialogue keeps, in the memory that it takes.
+//! The address that a dialogue keeps, in the memory that it takes, and what else it keeps of a Begin.
 
 // Its calls are inlined: apart they moved the address twice more, 60 instructions a turn of `register`.
 
-ghost use Rattle.std.specs.Prelude.{◌≡◌, ◌≤◌, ◌<◌, ◌↔◌, [], IfOk, IsTrue, OnOk, OnErr, length};
+ghost use Rattle.std.specs.Prelude.{◌≡◌, ◌≤◌, ◌<◌, ◌↔◌, [], IfOk, IsTrue, OnOk, OnErr, length, ◌+◌, Option, true, option_copied, None};
 ghost use Rattle.tcap_dialogue.specs.KeptOctets.{IsKept, kept_octets, most_in_place};
+ghost use Rattle.tcap_primitives.specs.ContextViews.{context_view};
+ghost use Rattle.tcap_model.specs.Procedures.Refusals.{can_name};
 
 use ber_core::OutOfMemory;
 use std::alloc::Allocator;
 use std::fmt;
 use std::marker::Model;
 use tcap_address::Address;
+use tcap_primitives::Context;
 
 /// The most octets that stand in the dialogue itself (our own).
 // With them an address is 32 octets, what the vector of a longer one takes with its tag.
@@ -146,4 +149,72 @@ fn in_place<A: Allocator + Copy>(octets: &[u8]) -> Held<A>
         len: octets.len() as u8,
         octets: place,
     }
+}
+
+/// What a dialogue keeps of a Begin for good: the address of the peer, and the context.
+#[derive(Drop)]
+pub(super) struct Names<A: Allocator + Copy> {
+    pub(super) kept: KeptAddress<A>,
+    pub(super) context: Option<Context<A>>,
+}
+
+impl<A: Allocator + Copy> Names<A> {
+    /// A copy of these.
+    // Each call has its own copy, as those of `KeptAddress` have: apart they moved the address twice more, which took
+    // 60 instructions a turn of `register`.
+    #[inline(always)]
+    pub(super) fn of(
+        alloc: A,
+        peer: &Address,
+        context: Option<&[u8]>,
+    ) -> Result<Names<A>, OutOfMemory>
+        requires named { can_name (option_copied context) ≡ true }
+        ensures kept { IfOk result (λ names. names.kept ≡ peer.now) }
+        ensures named { IfOk result (λ names. context_view names.context ≡ option_copied context.entry) }
+    {
+        let context = Context::of_any(alloc, context)?;
+        let kept = KeptAddress::of(alloc, peer)?;
+        Ok(Names { kept, context })
+    }
+}
+
+/// Keeps an address that takes no memory, and no context.
+// Written where they stay: by way of `Names` they took 50 to 65 instructions more.
+#[inline(always)]
+pub(super) fn keep_short<A: Allocator + Copy>(
+    peer: &Address,
+    kept: &mut KeptAddress<A>,
+    context: &mut Option<Context<A>>,
+)
+    requires { length peer.now ≤ most_in_place }
+    ensures kept { kept.new ≡ peer.now }
+    ensures context { context_view context.new ≡ None }
+{
+    kept.set_short(peer);
+    if context.is_some() {
+        *context = None;
+    }
+}
+
+/// Keeps the address of the peer and the context that it named.
+#[inline(always)]
+pub(super) fn keep_names<A: Allocator + Copy>(
+    alloc: A,
+    peer: &Address,
+    named: Option<&[u8]>,
+    kept: &mut KeptAddress<A>,
+    context: &mut Option<Context<A>>,
+) -> Result<(), OutOfMemory>
+    requires named { can_name (option_copied named) ≡ true }
+    ensures ok { OnOk result ((kept.new ≡ peer.now) × (context_view context.new ≡ option_copied named.entry)) }
+    ensures err { OnErr result ((kept.new ≡ kept.old) × (context_view context.new ≡ context_view context.old)) }
+{
+    if named.is_none() && is_short(peer) {
+        keep_short(peer, kept, context);
+        return Ok(());
+    }
+    let names = Names::of(alloc, peer, named)?;
+    *kept = names.kept;
+    *context = names.context;
+    Ok(())
 }

@@ -2,7 +2,7 @@
 
 // Hints to inline: each step of an engine runs through it; docs/PERF.md says what the whole of it inlined gains.
 
-ghost use Rattle.std.specs.Prelude.{◌≡◌, ◌≤◌, ◌<◌, vec_len, vec_capacity, Option, false, true, length, unwrap_or, option_copied, IfOk, OnOk, OnErr};
+ghost use Rattle.std.specs.Prelude.{◌≡◌, ◌≤◌, ◌<◌, vec_len, vec_capacity, Option, false, length, unwrap_or, option_copied, IfOk, OnOk, OnErr};
 ghost use Rattle.ber_core.specs.Place.{Slice};
 ghost use Rattle.tcap_primitives.specs.OutputViews.{cause_view};
 ghost use Rattle.tcap_reception.specs.PortionViews.{portion_view, PortionIn};
@@ -15,22 +15,30 @@ ghost use Rattle.tcap_dialogue.specs.StepViews.{StepsTo, at_clock, outcome, step
 ghost use Rattle.tcap_invocation.specs.Stage.{moment_limit};
 ghost use Rattle.tcap_model.specs.Procedures.PortionRules.{portion_verdict};
 ghost use Rattle.tcap_model.specs.Procedures.PortionRules.PortionVerdict.{normal};
-ghost use Rattle.tcap_model.specs.Table.TableMove.{DialogueEvent, Setting, continued_by, ended_by, framed, table_move, walked_in};
+ghost use Rattle.tcap_model.specs.Table.TableMove.{DialogueEvent, Setting, continued_by, framed, table_move, walked_in};
 ghost use Rattle.tcap_model.specs.Words.State.{State, address_by, peer_by};
 ghost use Rattle.tcap_pdu.specs.FramePortions.{dialogue_slice, components_slice};
 ghost use Rattle.tcap_pdu.specs.FrameViews.{message};
 
-use super::beginning::reserve_message;
-use super::ending::tell_ended;
 use super::kept_address::KeptAddress;
+use super::spares::Spares;
 use super::{Dialogue, Step};
-use crate::component_handling::message::{handle_components, handle_in_end, room_for};
+use crate::component_handling::message::{handle_components, reserve_message};
 use ber_core::OutOfMemory;
 use std::alloc::Allocator;
 use tcap_address::Address;
 use tcap_pdu::{Frame, TransId};
 use tcap_primitives::{Indication, Sink, SinkKind, Why};
 use tcap_reception::{After, Phase, PortionVerdict, judge_portion};
+
+/// Whether Rejects may answer components of a message: it is a Continue that has some.
+#[inline(always)]
+fn has_components(frame: &Frame<'_>) -> bool {
+    match frame {
+        Frame::Continue { components, .. } => !components.is_empty(),
+        Frame::Uni { .. } | Frame::Begin { .. } | Frame::End { .. } | Frame::Abort { .. } => false,
+    }
+}
 
 /// The sender of a Continue to a dialogue in Sent is kept; later ones are not (our own).
 #[inline(always)]
@@ -95,48 +103,6 @@ impl<A: Allocator + Copy> Dialogue<A> {
         Ok(self.phase.receive_continue(origin))
     }
 
-    /// An End whose dialogue portion is as it should be: it is told with its components, and then the
-    /// dialogue is over. All room is found first.
-    fn end_normal<'m, K: SinkKind>(
-        &mut self,
-        context: Option<&'m [u8]>,
-        info: &'m [u8],
-        components: &'m [u8],
-        clock: u64,
-        sink: &mut Sink<'m, A, K>,
-    ) -> Result<(), OutOfMemory>
-        requires { clock ≤ moment_limit }
-        ensures ok { OnOk result (StepsTo sink.old.outputs sink.new.outputs true self.new
-            (outcome (ended_by self.old (normal (option_copied context.entry) info.now)
-            (walked_in clock self.old components.now)))) }
-        ensures err { OnErr result (self.new ≡ self.old) }
-        ensures still { OnErr result (sink.new.outputs ≡ sink.old.outputs) }
-        ensures kept { self.new.standing.identifier ≡ self.old.standing.identifier }
-        ensures place { (portion : Option Slice) → PartsLieIn 0x61 context.entry info.entry portion
-            → LieInPlace portion components.entry sink.old.slices → LieInPlace portion components.entry sink.new.slices }
-    {
-        let told = Indication::End {
-            dialogue: self.identifier,
-            context,
-            info,
-        };
-        let count = room_for(components)
-            .saturating_add(self.invocations.open_count())
-            .saturating_add(1);
-        let octets = told.octet_count().saturating_add(components.len());
-        sink.reserve(count, octets)?;
-        sink.tell(told);
-        handle_in_end(
-            self.identifier,
-            clock,
-            components,
-            &mut self.invocations,
-            sink,
-        );
-        tell_ended(self.identifier, &mut self.invocations, sink);
-        Ok(())
-    }
-
     /// A Continue (Q.774, Dialogue continuation).
     #[inline(always)]
     fn receive_continue<'m, K: SinkKind>(
@@ -170,35 +136,8 @@ impl<A: Allocator + Copy> Dialogue<A> {
         }
     }
 
-    /// An End (Q.774, Dialogue end): the dialogue is over.
-    #[inline(always)]
-    fn receive_end<'m, K: SinkKind>(
-        &mut self,
-        dialogue: Option<&'m [u8]>,
-        components: &'m [u8],
-        clock: u64,
-        sink: &mut Sink<'m, A, K>,
-    ) -> Result<(), OutOfMemory>
-        requires { clock ≤ moment_limit }
-        ensures ok { OnOk result (StepsTo sink.old.outputs sink.new.outputs true self.new
-            (outcome (ended_by self.old (portion_verdict self.old.standing.state self.old.standing.context
-            (option_copied dialogue.entry)) (walked_in clock self.old components.now)))) }
-        ensures err { OnErr result (self.new ≡ self.old) }
-        ensures still { OnErr result (sink.new.outputs ≡ sink.old.outputs) }
-        ensures kept { self.new.standing.identifier ≡ self.old.standing.identifier }
-        ensures place { LieInPlace dialogue.entry components.entry sink.old.slices
-            → LieInPlace dialogue.entry components.entry sink.new.slices }
-    {
-        match judge_portion(&self.phase, &self.context, dialogue) {
-            PortionVerdict::Normal { context, info } => {
-                self.end_normal(context, info, components, clock, sink)
-            }
-            PortionVerdict::Abnormal => self.abort_provider(Why::Abnormal, sink),
-        }
-    }
-
     /// `take_frame`, message by message.
-    pub(super) fn receive_message<'m, K: SinkKind>(
+    fn receive_message<'m, K: SinkKind>(
         &mut self,
         from: &Address,
         frame: &Frame<'m>,
@@ -236,6 +175,37 @@ impl<A: Allocator + Copy> Dialogue<A> {
             }
             Frame::Uni { .. } | Frame::Begin { .. } => Ok(After::Open),
         }
+    }
+
+    /// `take_frame`, whose outputs are appended to what a sink holds, where the Rejects that answer components take
+    /// memory that other dialogues left: whether the dialogue is over. A queue that is empty afterwards leaves its
+    /// memory to others.
+    #[tactic(auto, unfolding(tcap_model::specs::Table::TableMove::table_move))]
+    pub fn take_frame_with<'m, K: SinkKind>(
+        &mut self,
+        spares: &mut Spares<A>,
+        from: &Address,
+        frame: &Frame<'m>,
+        clock: u64,
+        sink: &mut Sink<'m, A, K>,
+    ) -> Result<bool, OutOfMemory>
+        requires { clock ≤ moment_limit }
+        ensures ok { IfOk result (λ over. StepsTo sink.old.outputs sink.new.outputs over
+            self.new
+            (outcome (table_move (at_clock clock) self.old (DialogueEvent.frame from.now (message frame.now))))) }
+        ensures err { OnErr result (self.new ≡ self.old) }
+        ensures still { OnErr result (sink.new.outputs ≡ sink.old.outputs) }
+        ensures kept { self.new.standing.identifier ≡ self.old.standing.identifier }
+        ensures place { (other : Slice)
+            → LieInPlace (dialogue_slice frame.now) (unwrap_or (components_slice frame.now) other) sink.old.slices
+            → LieInPlace (dialogue_slice frame.now) (unwrap_or (components_slice frame.now) other) sink.new.slices }
+    {
+        if has_components(frame) {
+            spares.lend_queue(&mut self.queue);
+        }
+        let after = self.receive_message(from, frame, clock, sink);
+        self.leave_queue(spares);
+        Ok(after?.is_over())
     }
 
     /// A Continue, an End or an Abort from this address to the dialogue while it is live, in Sent or in

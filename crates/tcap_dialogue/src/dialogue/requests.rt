@@ -15,7 +15,7 @@ pub(crate) mod results;
 pub(crate) mod sending;
 pub(crate) mod unidirectional;
 
-ghost use Rattle.std.specs.Prelude.{◌≡◌, ◌≤◌, List};
+ghost use Rattle.std.specs.Prelude.{◌≡◌, ◌≤◌, List, false};
 ghost use Rattle.tcap_dialogue.specs.AskViews.{Asks, AsksInto, IsNumbered, accepted_outcome, asked_view};
 ghost use Rattle.tcap_dialogue.specs.RequestForm.{Answers, StepsInto, numbered, queued_done, gave_up};
 ghost use Rattle.tcap_model.specs.Words.Output as told;
@@ -26,6 +26,7 @@ ghost use Rattle.tcap_invocation.specs.Stage.{moment_limit};
 ghost use Rattle.tcap_model.specs.Table.Dialogue as model;
 ghost use Rattle.tcap_model.specs.Table.TableMove.{DialogueEvent, table_move};
 
+use super::spares::Spares;
 use super::{Dialogue, Step};
 use std::alloc::{Allocator, Global};
 use tcap_primitives::{Fault, Output, Request, Sink, SinkKind};
@@ -94,11 +95,79 @@ impl<A: Allocator + Copy> Dialogue<A> {
         Ok(accepted.asked(sink.into_vector()))
     }
 
+    /// `ask`, whose outputs are appended to what a sink holds, where a component takes memory that other dialogues
+    /// left. `reject_ms` is what the dialogue was made with. A queue that is empty afterwards leaves its memory to
+    /// others, and so does an empty list of invocations where an Invoke is refused.
+    #[inline(always)]
+    pub fn ask_with<'m, K: SinkKind>(
+        &mut self,
+        spares: &mut Spares<A>,
+        reject_ms: u64,
+        clock: u64,
+        number: u64,
+        request: &Request<'_>,
+        sink: &mut Sink<'m, A, K>,
+    ) -> Result<Accepted, Fault>
+        requires wait { self.old.invocations.reject_ms ≡ reject_ms }
+        requires limited { reject_ms ≤ moment_limit }
+        requires clock { clock ≤ moment_limit }
+        requires number { IsNumbered number self.old.invocations.rows (request_view request.now) }
+        ensures answer { AsksInto sink.old.outputs sink.new.outputs result
+            (outcome (table_move (asked clock number) self.old (DialogueEvent.request (request_view request.now))))
+            self.old self.new }
+        ensures kept { self.new.standing.identifier ≡ self.old.standing.identifier }
+    {
+        self.borrow(spares, reject_ms, request);
+        match self.ask_into(clock, number, request, sink) {
+            Ok(accepted) => {
+                if matches!(request, Request::Begin(_) | Request::Continue(_)) {
+                    spares.make_places();
+                }
+                self.leave_queue(spares);
+                Ok(accepted)
+            }
+            Err(fault) => {
+                self.give_back(spares, reject_ms, matches!(request, Request::Invoke(_)));
+                Err(fault)
+            }
+        }
+    }
+
+    /// Takes what a component needs: a queue, and for an Invoke a list of invocations.
+    // Where the request is known, what is asked of it folds away.
+    #[inline(always)]
+    fn borrow(&mut self, spares: &mut Spares<A>, reject_ms: u64, request: &Request<'_>)
+        requires wait { self.old.invocations.reject_ms ≡ reject_ms }
+        requires limited { reject_ms ≤ moment_limit }
+        ensures { self.new ≡ self.old }
+    {
+        if !queues_component(request) {
+            return;
+        }
+        spares.lend_queue(&mut self.queue);
+        if matches!(request, Request::Invoke(_)) {
+            spares.lend_list(&mut self.invocations, reject_ms);
+        }
+    }
+
+    /// Gives back what was taken for a request that is refused: an empty queue, and of an Invoke an empty list.
+    #[inline(never)]
+    fn give_back(&mut self, spares: &mut Spares<A>, reject_ms: u64, is_invoke: bool)
+        requires wait { self.old.invocations.reject_ms ≡ reject_ms }
+        requires limited { reject_ms ≤ moment_limit }
+        ensures { self.new ≡ self.old }
+    {
+        self.leave_queue(spares);
+        if is_invoke && self.invocations.is_above_all(0) {
+            spares.keep_list(&mut self.invocations, reject_ms);
+        }
+    }
+
     /// `ask`, whose outputs are appended to what a sink holds.
     // Where the request is known, the match on it folds away, and no `Request` and no `Accepted` is built in
     // memory. Each struct is copied out of it: by reference it took more instructions.
     #[inline(always)]
-    pub(super) fn ask_into<'m, K: SinkKind>(
+    fn ask_into<'m, K: SinkKind>(
         &mut self,
         clock: u64,
         number: u64,
@@ -125,6 +194,24 @@ impl<A: Allocator + Copy> Dialogue<A> {
             Request::End(end) => of_step(self.send_end(&end, sink)),
             Request::Abort(abort) => of_step(self.send_abort(&abort, sink)),
         }
+    }
+}
+
+/// Whether a request queues a component.
+#[inline(always)]
+fn queues_component(request: &Request<'_>) -> bool {
+    match request {
+        Request::Invoke(_)
+        | Request::ResultLast(_)
+        | Request::ResultMore(_)
+        | Request::ErrorBack(_)
+        | Request::Reject(_) => true,
+        Request::Cancel(_)
+        | Request::Uni(_)
+        | Request::Begin(_)
+        | Request::Continue(_)
+        | Request::End(_)
+        | Request::Abort(_) => false,
     }
 }
 

@@ -1,10 +1,11 @@
-//! The memory that dialogues leave to others.
+//! The memory that dialogues leave to others, and how one leaves its own.
 
 ghost use Rattle.std.specs.Prelude.{◌≡◌, ◌<◌, ◌≤◌, [], true, vec_len, vec_capacity};
 ghost use Rattle.tcap_invocation.specs.Invocations.{AllBelow};
 ghost use Rattle.tcap_invocation.specs.Stage.{moment_limit};
 ghost use Rattle.tcap_primitives.specs.QueueViews.{queue_view};
 
+use super::Dialogue;
 use std::alloc::{Allocator, Global};
 use std::mem;
 use tcap_invocation::Invocations;
@@ -144,4 +145,29 @@ fn has_place<T, A: Allocator + Copy>(places: &Vec<T, A>) -> bool
     ensures { result ≡ true → vec_len places.now < vec_capacity places.now }
 {
     places.len() < places.capacity()
+}
+
+impl<A: Allocator + Copy> Dialogue<A> {
+    /// Leaves the memory of the queue to others, where it is empty. It takes none.
+    #[inline(always)]
+    pub(super) fn leave_queue(&mut self, spares: &mut Spares<A>)
+        ensures { self.new ≡ self.old }
+    {
+        if self.queue.octets.capacity() > 0 && self.queue.parts.is_empty() {
+            spares.keep_queue(&mut self.queue);
+        }
+    }
+
+    /// Leaves its memory to those that come: it is over, and not to be used any more.
+    pub fn leave_memory(&mut self, spares: &mut Spares<A>)
+        ensures { self.new.standing.identifier ≡ self.old.standing.identifier }
+    {
+        if self.queue.octets.capacity() > 0 || self.invocations.capacity() > 0 {
+            spares.make_places();
+        }
+        if self.queue.octets.capacity() > 0 {
+            spares.keep_queue(&mut self.queue);
+        }
+        spares.keep_list(&mut self.invocations, 0);
+    }
 }

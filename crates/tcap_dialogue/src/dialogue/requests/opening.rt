@@ -22,8 +22,7 @@ ghost use Rattle.tcap_primitives.specs.SendingViews.{CanSend, sending_view};
 use super::sending::{
     frame_length, is_name_good, lacks_context, send, send_frame, within_limit_if_any,
 };
-use crate::dialogue::beginning::{Names, keep_short};
-use crate::dialogue::kept_address::is_short;
+use crate::dialogue::kept_address::{Names, is_short, keep_short};
 use crate::dialogue::{Dialogue, Step};
 use std::alloc::Allocator;
 use tcap_address::Address;

@@ -1,7 +1,7 @@
 use Rattle.std.proofs.Common.{rules}
 use Rattle.tcap_primitives.specs.Slices.{Slices}
 use Rattle.tcap_component.specs.declared.component.Component.TheVariants as component
-use Rattle.tcap_dialogue.proofs.component_handling.answers.result_judged.Goals as goal
+use Rattle.tcap_dialogue.proofs.component_handling.in_dialogue.result_judged.Goals as goal
 
 pub returns-then-last : goal.returns-then-last
 returns-then-last g c = record {

@@ -1,9 +1,9 @@
 use Rattle.std.proofs.Common.{rules}
-use Rattle.tcap_dialogue.proofs.component_handling.in_dialogue.take_reject_back.Goals as goal
+use Rattle.tcap_dialogue.proofs.component_handling.failures.take_reject.Goals as goal
 
-pub returns-in-Some-clause-handled : goal.returns-in-Some-clause-handled
-returns-in-Some-clause-handled g c =
-    let h = c.take_reject.ensures.handled in
+pub returns-clause-handled : goal.returns-clause-handled
+returns-clause-handled g c =
+    let h = c.reject_judged.ensures.handled in
     record {
       slices = h.slices;
       is_told = search (rules, h.is_told);

@@ -1,7 +1,7 @@
 use Rattle.std.proofs.Common.{rules}
 use Rattle.tcap_primitives.specs.Slices.{Slices}
 use Rattle.tcap_component.specs.declared.component.Component.TheVariants as component
-use Rattle.tcap_dialogue.proofs.component_handling.answers.error_judged.Goals as goal
+use Rattle.tcap_dialogue.proofs.component_handling.failures.error_judged.Goals as goal
 
 pub returns-in-Good : goal.returns-in-Good
 returns-in-Good g c = record {

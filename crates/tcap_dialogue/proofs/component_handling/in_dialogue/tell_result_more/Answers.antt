@@ -1,5 +1,5 @@
 use Rattle.std.proofs.Common.{rules}
-use Rattle.tcap_dialogue.proofs.component_handling.answers.tell_result_more.Goals as goal
+use Rattle.tcap_dialogue.proofs.component_handling.in_dialogue.tell_result_more.Goals as goal
 
 pub returns-clause-place : goal.returns-clause-place
 returns-clause-place g c =
