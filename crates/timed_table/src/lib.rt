@@ -4,8 +4,8 @@
 //! Begin at `Table`.
 #![tactic(auto)]
 
-mod changes;
 mod due;
+mod insertion;
 mod keys;
 mod table;
 

@@ -2,18 +2,19 @@
 
 // Hints to inline: each step of an engine runs through it; docs/PERF.md says what the whole of it inlined gains.
 
-ghost use Rattle.std.specs.Prelude.{◌≡◌, ◌++◌, ◌∷◌, [], ℕ, nat_eq, length, option_copied, OnOk, OnErr, IfErr, MatchOption};
+ghost use Rattle.std.specs.Prelude.{◌≡◌, ◌++◌, ◌∷◌, [], ℕ, nat_eq, length, option_copied, OnOk, OnErr, IfErr, MatchOption, ◌<◌};
 ghost use Rattle.std.specs.Map.{lookup, remove_entry};
 ghost use Rattle.timed_table.specs.Row.{AllBelow, IsRising, HasNoTime, IsFirst, entries_of, row_of, time_in, with_time, without, due_values};
+ghost use Rattle.timed_table.specs.Tied.{timer_named, IsSound, all_rows};
 
-use crate::changes::{insert_row, remove_row, time_row};
 use crate::due::DueRows;
+use crate::insertion::insert_row;
 use crate::keys::Keys;
 use slab::Slab;
 use std::alloc::{AllocFailed, Allocator, Global};
 use std::fmt;
 use std::marker::Model;
-use timer_queue::TimerQueue;
+use timer_queue::{Timer, TimerQueue};
 
 /// Values under identifiers, which rise as they are inserted; beside each value a time, if it has one.
 #[derive(Drop)]
@@ -187,5 +188,55 @@ impl<T: Drop + fmt::Debug, A: Allocator + Copy> fmt::Debug for Table<T, A> {
             rows.entry(id, &self.values.get(*key));
         }
         rows.finish()
+    }
+}
+
+/// The timer that stands for a time.
+#[inline(always)]
+pub(crate) fn timer_named(id: u32, time: Option<u64>) -> Option<Timer>
+    ensures { result ≡ timer_named id time }
+{
+    match time {
+        None => None,
+        Some(time) => Some(Timer { time, name: id }),
+    }
+}
+
+/// Takes out the row of an identifier.
+// In `Table::remove`, for the same reason.
+#[inline(always)]
+fn remove_row<T: Drop, A: Allocator + Copy>(
+    values: &mut Slab<T, A>,
+    keys: &mut Keys<A>,
+    timers: &mut TimerQueue<A>,
+    id: u32,
+) -> Option<T>
+    requires { IsSound keys.old values.old timers.old }
+    ensures sound { IsSound keys.new values.new timers.new }
+    ensures value { result ≡ lookup (nat_eq id) (entries_of (all_rows keys.old values.old timers.old)) }
+    ensures rows { all_rows keys.new values.new timers.new
+        ≡ without id (all_rows keys.old values.old timers.old) }
+{
+    let key = keys.remove(id)?;
+    timers.set(key, None);
+    values.try_remove(key)
+}
+
+/// Writes the time of an identifier, if it has a row.
+#[inline(always)]
+fn time_row<T: Drop, A: Allocator + Copy>(
+    values: &Slab<T, A>,
+    keys: &mut Keys<A>,
+    timers: &mut TimerQueue<A>,
+    id: u32,
+    time: Option<u64>,
+)
+    requires { IsSound keys.old values.now timers.old }
+    ensures sound { IsSound keys.new values.now timers.new }
+    ensures rows { all_rows keys.new values.now timers.new
+        ≡ with_time id time (all_rows keys.old values.now timers.old) }
+{
+    if let Some(key) = keys.find(id) {
+        timers.set(key, timer_named(id, time));
     }
 }

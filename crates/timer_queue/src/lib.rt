@@ -5,7 +5,6 @@
 //! `TimerQueue`.
 #![tactic(auto)]
 
-mod changes;
 mod due;
 mod heap;
 mod queue;

@@ -2,7 +2,7 @@ use Rattle.std.proofs.Common.{rules, ◌≡◌, None, Some}
 use Rattle.timed_table.specs.Tied.{key_of}
 use Rattle.timed_table.proofs.WriteLemmas.{rows-untimed}
 use Rattle.timed_table.proofs.SoundLemmas.{rows-time, sound-time}
-use Rattle.timed_table.proofs.changes.time_row.Goals as goal
+use Rattle.timed_table.proofs.table.time_row.Goals as goal
 
 pub returns-in-Some-clause-sound : goal.returns-in-Some-clause-sound
 returns-in-Some-clause-sound g c =

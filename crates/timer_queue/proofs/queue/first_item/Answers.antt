@@ -2,7 +2,7 @@ use Rattle.std.proofs.Common.{rules, ◌≡◌, ◌∙◌, ap, None, Some}
 use Rattle.timer_queue.specs.Order.{timer_at}
 use Rattle.timer_queue.specs.Heap.{item_at}
 use Rattle.timer_queue.proofs.ChangeLemmas.{none-first, some-first}
-use Rattle.timer_queue.proofs.changes.first_item.Goals as goal
+use Rattle.timer_queue.proofs.queue.first_item.Goals as goal
 
 pub returns-in_err-timers : goal.returns-in_err-timers
 returns-in_err-timers c =

@@ -3,7 +3,7 @@ use Rattle.timed_table.specs.Tied.{key_of}
 use Rattle.timed_table.proofs.TiedLemmas.{value_at, value-is}
 use Rattle.timed_table.proofs.WriteLemmas.{rows-unremoved}
 use Rattle.timed_table.proofs.SoundLemmas.{rows-remove, sound-remove}
-use Rattle.timed_table.proofs.changes.remove_row.Goals as goal
+use Rattle.timed_table.proofs.table.remove_row.Goals as goal
 
 pub returns-in_err-key-clause-value : goal.returns-in_err-key-clause-value
 returns-in_err-key-clause-value g c =

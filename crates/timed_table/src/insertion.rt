@@ -1,28 +1,17 @@
-//! Changes of a table's rows and timers that several calls need.
+//! A row is put into a table: room for it, its key and its timer.
 
 // Hints to inline: each step of an engine runs through it; docs/PERF.md says what the whole of it inlined gains.
 
-ghost use Rattle.std.specs.Prelude.{◌≡◌, ◌<◌, ◌≤◌, ◌++◌, [], ◌∷◌, IsSome, None, nat_eq, length, OnOk, OnErr, IfOk, IfErr};
-ghost use Rattle.std.specs.Map.{lookup};
+ghost use Rattle.std.specs.Prelude.{◌≡◌, ◌<◌, ◌++◌, [], ◌∷◌, None, length, OnOk, OnErr, IfOk, IfErr};
 ghost use Rattle.slab.specs.Slab.{get, HasRoomFor};
-ghost use Rattle.timed_table.specs.Row.{AllBelow, entries_of, without, with_time};
+ghost use Rattle.timed_table.specs.Row.{AllBelow};
 ghost use Rattle.timed_table.specs.Tied.{IsSound, IsExtended, all_rows, timer_named};
 
 use crate::keys::Keys;
+use crate::table::timer_named;
 use slab::Slab;
 use std::alloc::{AllocError, AllocFailed, Allocator};
-use timer_queue::{Timer, TimerQueue};
-
-/// The timer that stands for a time.
-#[inline(always)]
-pub(crate) fn timer_named(id: u32, time: Option<u64>) -> Option<Timer>
-    ensures { result ≡ timer_named id time }
-{
-    match time {
-        None => None,
-        Some(time) => Some(Timer { time, name: id }),
-    }
-}
+use timer_queue::TimerQueue;
 
 /// Adds items to the timers until there is one of this number.
 #[inline(always)]
@@ -85,43 +74,4 @@ pub(crate) fn insert_row<T: Drop, A: Allocator + Copy>(
     values.insert_reserved(value);
     timers.set(key, timer_named(id, time));
     Ok(())
-}
-
-/// Takes out the row of an identifier.
-// In `Table::remove`, for the same reason.
-#[inline(always)]
-pub(crate) fn remove_row<T: Drop, A: Allocator + Copy>(
-    values: &mut Slab<T, A>,
-    keys: &mut Keys<A>,
-    timers: &mut TimerQueue<A>,
-    id: u32,
-) -> Option<T>
-    requires { IsSound keys.old values.old timers.old }
-    ensures sound { IsSound keys.new values.new timers.new }
-    ensures value { result ≡ lookup (nat_eq id) (entries_of (all_rows keys.old values.old timers.old)) }
-    ensures rows { all_rows keys.new values.new timers.new
-        ≡ without id (all_rows keys.old values.old timers.old) }
-{
-    let key = keys.remove(id)?;
-    timers.set(key, None);
-    values.try_remove(key)
-}
-
-/// Writes the time of an identifier, if it has a row.
-#[inline(always)]
-pub(crate) fn time_row<T: Drop, A: Allocator + Copy>(
-    values: &Slab<T, A>,
-    keys: &mut Keys<A>,
-    timers: &mut TimerQueue<A>,
-    id: u32,
-    time: Option<u64>,
-)
-    requires { IsSound keys.old values.now timers.old }
-    ensures sound { IsSound keys.new values.now timers.new }
-    ensures rows { all_rows keys.new values.now timers.new
-        ≡ with_time id time (all_rows keys.old values.now timers.old) }
-{
-    if let Some(key) = keys.find(id) {
-        timers.set(key, timer_named(id, time));
-    }
 }

@@ -1,6 +1,6 @@
 use Rattle.std.proofs.Common.{◌≡◌, ◌∙◌, length}
 use Rattle.timer_queue.proofs.ChangeLemmas.{sound-push}
-use Rattle.timer_queue.proofs.changes.push_item.Goals as goal
+use Rattle.timer_queue.proofs.queue.push_item.Goals as goal
 
 pub returns-clause-sound : goal.returns-clause-sound
 returns-clause-sound g c =

@@ -4,8 +4,8 @@ use Rattle.timed_table.specs.Row.{AllBelow}
 use Rattle.timed_table.specs.Tied.{IsSound, all_rows}
 use Rattle.timed_table.proofs.TiedLemmas.{key-above}
 use Rattle.timed_table.proofs.SoundLemmas.{rows-roomy, sound-roomy, rows-insert, sound-insert}
-use Rattle.timed_table.proofs.changes.insert_row.Given.{Over}
-use Rattle.timed_table.proofs.changes.insert_row.Goals as goal
+use Rattle.timed_table.proofs.insertion.insert_row.Given.{Over}
+use Rattle.timed_table.proofs.insertion.insert_row.Goals as goal
 
 abbrev Roomy : (g : Over) → goal.After-set g → Type 0
 Roomy g c = IsSound c.args.keys.now c.make_room.new.values c.make_room.new.timers
