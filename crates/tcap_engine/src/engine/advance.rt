@@ -1,21 +1,27 @@
-//! `Engine::advance`: the clock goes to a moment, and what is due lapses or ends (own).
+//! `Engine::advance`: the clock goes to a moment, and what is due lapses or ends (own); and when that will be.
 
 // Hints to inline: each step of an engine runs through it; docs/PERF.md says what the whole of it inlined gains.
 
-ghost use Rattle.std.specs.Prelude.{◌≡◌, ◌≤◌, OnErr, false};
+ghost use Rattle.std.specs.Prelude.{◌≡◌, ◌≤◌, OnErr, false, ℕ, true, ◌+◌, IfSome, MatchOption, ◌++◌, length, IfNone, [], vec_capacity, nat_eq};
 ghost use Rattle.tcap_engine.specs.StepForm.{EngineAnswers, outputs_answer, since_answer};
 ghost use Rattle.tcap_engine.specs.HistoryForm.{Stands};
-ghost use Rattle.tcap_engine.specs.NextTimer.{IsAccepted, IsStill};
+ghost use Rattle.tcap_engine.specs.NextTimer.{IsAccepted, IsStill, IsChanged, next_timer_in};
 ghost use Rattle.tcap_invocation.specs.Stage.{moment_limit};
 ghost use Rattle.tcap_model.specs.Table.EngineMove.{engine_move, advanced};
 ghost use Rattle.tcap_model.specs.Words.Event.{Event};
 ghost use Rattle.tcap_primitives.specs.SinkViews.{KeepsOutputs};
+ghost use Rattle.timed_table.specs.Row.{is_due};
+ghost use Rattle.tcap_engine.specs.Lapsing.{IsFirstTimer, IsQuiet, IsExpired};
+ghost use Rattle.tcap_engine.specs.DialogueEntries.{AreFrom, dialogues_of};
+ghost use Rattle.tcap_model.specs.Table.DueLapses.{all_told};
+ghost use Rattle.tcap_engine.specs.IdleDialogues.{ends_in, idle_ids, left_by, idle_end_in, AreDistinct, without_all};
+ghost use Rattle.std.specs.Map.{remove_entry};
+ghost use Rattle.std.specs.List.{flat_map};
 
 use super::Engine;
-use super::idle::end_all;
-use super::moment::tell_due;
+use crate::dialogues::Dialogues;
 use std::alloc::Allocator;
-use tcap_dialogue::{Fault, Output, Sink, SinkKind};
+use tcap_dialogue::{Fault, Output, Sink, SinkKind, Timer};
 use tcap_invocation::MAX_MOMENT;
 use tcap_primitives::ranges;
 
@@ -85,6 +91,24 @@ impl<A: Allocator + Copy> Engine<A> {
         self.expire(now, sink)
     }
 
+    /// The least moment, in milliseconds, at which `advance` tells something, frees an identifier or ends a
+    /// dialogue; `None` where none is. A caller may sleep until then. It takes no memory (our own).
+    pub fn next_timer(&self) -> Option<u64>
+        ensures value { result ≡ next_timer_in self.now }
+        // A moment below it does nothing but set the clock; one from it on changes a dialogue.
+        ensures before { (now : ℕ) → IsAccepted self.now now
+            → is_due now result ≡ false → IsStill self.now now }
+        ensures reached { (now : ℕ) → IsAccepted self.now now
+            → is_due now result ≡ true → IsChanged self.now now }
+    {
+        let first = self.table.first_timer()?;
+        if first.0 <= MAX_MOMENT {
+            Some(first.0)
+        } else {
+            None
+        }
+    }
+
     /// Whether a moment has reached the first timer of all.
     #[inline(always)]
     fn has_reached(&self, now: u64) -> bool
@@ -111,5 +135,115 @@ impl<A: Allocator + Copy> Engine<A> {
         end_all(&mut self.table, &idle, sink);
         self.clock = now;
         Ok(())
+    }
+}
+
+/// The first timer of all that runs out by a moment, and its dialogue.
+#[inline(always)]
+fn first_timer_by<A: Allocator + Copy>(table: &Dialogues<A>, now: u64) -> Option<(u64, u32)>
+    ensures first { MatchOption result (IsQuiet now table.now) (IsFirstTimer table.now) }
+    ensures reached { IfSome result (λ first. first.0 ≤ now) }
+{
+    let first = table.first_timer()?;
+    if first.0 <= now { Some(first) } else { None }
+}
+
+/// The first timer of all runs out, if a moment has reached it: the identifier of its dialogue, and what it was of.
+// In its one caller: apart, what it answers went through memory, and its many registers were kept twice for each lapse,
+// for one that ran out and for none; 40 instructions a lapse.
+#[inline(always)]
+fn expire_first<'m, A: Allocator + Copy, K: SinkKind>(
+    table: &mut Dialogues<A>,
+    now: u64,
+    sink: &mut Sink<'m, A, K>,
+) -> Option<(u32, Timer)>
+    requires from { AreFrom 0 table.old }
+    requires late { now ≤ moment_limit }
+    requires places { length (all_told now (dialogues_of table.old)) ≤ sink.old.places }
+    ensures none { IfNone result (IsQuiet now table.old × (table.new ≡ table.old)) }
+    ensures some { IfSome result (λ first. IsExpired now first.0 first.1 table.old table.new) }
+    // What is told is what comes first at the moment.
+    ensures told { sink.new.outputs ++ all_told now (dialogues_of table.new)
+        ≡ sink.old.outputs ++ all_told now (dialogues_of table.old) }
+    ensures places { sink.old.places + length (all_told now (dialogues_of table.new))
+        ≤ sink.new.places + length (all_told now (dialogues_of table.old)) }
+{
+    let first = first_timer_by(table, now)?;
+    table.find_first();
+    let dialogue = table.rows.get_mut(first.1)?;
+    let timer = dialogue.expire_first(now, sink)?;
+    let next = dialogue.next_timer();
+    table.rows.set_time(first.1, next);
+    Some((first.1, timer))
+}
+
+/// Tells what lapses, earliest first, frees each identifier whose wait is over, and postpones the end of each
+/// dialogue that has been idle too long: these are the identifiers, earliest first. There is room for all.
+#[inline(always)]
+fn tell_due<'m, A: Allocator + Copy, K: SinkKind>(
+    table: &mut Dialogues<A>,
+    now: u64,
+    sink: &mut Sink<'m, A, K>,
+    idle: &mut Vec<u32, A>,
+)
+    requires from { AreFrom 0 table.old }
+    requires late { now ≤ moment_limit }
+    requires places { length (all_told now (dialogues_of table.old)) ≤ sink.old.places }
+    requires empty { idle.old.items ≡ [] }
+    requires space { length (idle_ids now table.old) ≤ vec_capacity idle.old }
+    ensures told { sink.new.outputs ≡ sink.old.outputs
+        ++ all_told now (dialogues_of table.old) }
+    ensures places { sink.old.places ≤ sink.new.places
+        + length (all_told now (dialogues_of table.old)) }
+    ensures idle { idle.new.items ≡ idle_ids now table.old }
+    ensures ends { (id : ℕ) → ends_in now table.new id ≡ ends_in now table.old id }
+    ensures left { left_by now (idle_ids now table.old) table.new ≡ left_by now (idle_ids now table.old) table.old }
+    ensures quiet { IsQuiet now table.new }
+    ensures from { AreFrom 0 table.new }
+{
+    while let Some((identifier, timer)) = expire_first(table, now, sink) {
+        match timer {
+            Timer::Lapse | Timer::Wait => {}
+            Timer::Idle => idle.push_reserved(identifier),
+        }
+    }
+}
+
+/// The dialogue of an identifier is over (TC-P-ABORT indication); there is room for all that is told.
+fn end_one<'m, A: Allocator + Copy, K: SinkKind>(
+    table: &mut Dialogues<A>,
+    identifier: u32,
+    sink: &mut Sink<'m, A, K>,
+)
+    requires from { AreFrom 0 table.old }
+    requires places { length (idle_end_in table.old identifier) ≤ sink.old.places }
+    ensures told { sink.new.outputs ≡ sink.old.outputs
+        ++ idle_end_in table.old identifier }
+    ensures places { sink.old.places ≤ sink.new.places
+        + length (idle_end_in table.old identifier) }
+    ensures table { table.new ≡ remove_entry (nat_eq identifier) table.old }
+{
+    let Some(mut dialogue) = table.rows.remove(identifier) else {
+        return;
+    };
+    dialogue.abort_idle(sink);
+}
+
+/// The dialogues of these identifiers are over, earliest first; there is room for all that is told.
+#[inline(always)]
+fn end_all<'m, A: Allocator + Copy, K: SinkKind>(
+    table: &mut Dialogues<A>,
+    ids: &[u32],
+    sink: &mut Sink<'m, A, K>,
+)
+    requires from { AreFrom 0 table.old }
+    requires apart { AreDistinct ids.now }
+    requires places { length (flat_map (idle_end_in table.old) ids.now) ≤ sink.old.places }
+    ensures told { sink.new.outputs ≡ sink.old.outputs
+        ++ flat_map (idle_end_in table.old) ids.now }
+    ensures table { table.new ≡ without_all ids.now table.old }
+{
+    for identifier in ids {
+        end_one(table, *identifier, sink);
     }
 }

@@ -1,22 +1,27 @@
 //! The requests of component handling (Q.771, Component handling).
 
-ghost use Rattle.std.specs.Prelude.{◌≡◌, option_copied, OnErr};
+// In each named call the kind of answer is known: inlined, the match on it folds away.
+
+ghost use Rattle.std.specs.Prelude.{◌≡◌, option_copied, OnErr, IfOk};
 ghost use Rattle.std.specs.Option.{option_map};
 ghost use Rattle.tcap_component.specs.Views.{body_parts, code_parts, problem_parts};
 ghost use Rattle.tcap_dialogue.specs.RequestForm.{gave_up, numbered, queued_done};
 ghost use Rattle.tcap_engine.specs.StepForm.{EngineAnswers};
-ghost use Rattle.tcap_engine.specs.HistoryForm.{Stands};
-ghost use Rattle.tcap_model.specs.Table.EngineMove.{engine_move};
+ghost use Rattle.tcap_engine.specs.HistoryForm.{Stands, StandsAfter};
+ghost use Rattle.tcap_model.specs.Table.EngineMove.{engine_move, EngineMoved};
 ghost use Rattle.tcap_model.specs.Words.Event.{Event};
 ghost use Rattle.tcap_model.specs.Words.Request as model;
 ghost use Rattle.tcap_model.specs.Words.Request.{ComponentRequest};
+ghost use Rattle.tcap_engine.specs.AnswerKinds.{AnswerKind, MayAnswer};
+ghost use Rattle.tcap_engine.specs.RequestInTable.{asked_answer};
+ghost use Rattle.tcap_model.specs.Histories.History.{History};
+ghost use Rattle.tcap_model.specs.Table.World.{World};
 
 use super::Engine;
-use super::request_answers::{given_up_of, number_of, queued_of};
 use std::alloc::Allocator;
 use tcap_component::{Body, Code, Problem};
 use tcap_dialogue::{
-    CancelRequest, ErrorRequest, Fault, InvokeRequest, RejectRequest, Request, ResultRequest,
+    Asked, CancelRequest, ErrorRequest, Fault, InvokeRequest, RejectRequest, Request, ResultRequest,
 };
 use tcap_invocation::Class;
 
@@ -137,5 +142,51 @@ impl<A: Allocator + Copy> Engine<A> {
         ensures err { OnErr result (self.new ≡ self.old) }
     {
         given_up_of(self.request(dialogue, &Request::Cancel(CancelRequest { id })))
+    }
+}
+
+/// The number of a new invocation.
+#[inline(always)]
+fn number_of<A: Allocator + Copy>(asked: Result<Asked<'_, A>, Fault>) -> Result<u64, Fault>
+    requires { IfOk asked (λ a. MayAnswer AnswerKind.number (asked_answer a)) }
+    ensures moves { (m : EngineMoved) (old new : World) → EngineAnswers asked_answer asked.entry m old new
+        → EngineAnswers numbered result m old new }
+    ensures stands { (h : History) (event : Event) (new : World)
+        → StandsAfter asked_answer asked.entry h event new → StandsAfter numbered result h event new }
+    ensures err { (old new : World) → OnErr asked.entry (new ≡ old) → OnErr result (new ≡ old) }
+{
+    match asked? {
+        Asked::Number(number) => Ok(number),
+        Asked::Done | Asked::GivenUp(_) | Asked::Step(_) => unreachable!(),
+    }
+}
+
+/// A component was queued.
+#[inline(always)]
+fn queued_of<A: Allocator + Copy>(asked: Result<Asked<'_, A>, Fault>) -> Result<(), Fault>
+    requires { IfOk asked (λ a. MayAnswer AnswerKind.queued (asked_answer a)) }
+    ensures moves { (m : EngineMoved) (old new : World) → EngineAnswers asked_answer asked.entry m old new
+        → EngineAnswers queued_done result m old new }
+    ensures stands { (h : History) (event : Event) (new : World)
+        → StandsAfter asked_answer asked.entry h event new → StandsAfter queued_done result h event new }
+    ensures err { (old new : World) → OnErr asked.entry (new ≡ old) → OnErr result (new ≡ old) }
+{
+    asked?;
+    Ok(())
+}
+
+/// The number of the invocation that was given up.
+#[inline(always)]
+fn given_up_of<A: Allocator + Copy>(asked: Result<Asked<'_, A>, Fault>) -> Result<u64, Fault>
+    requires { IfOk asked (λ a. MayAnswer AnswerKind.given_up (asked_answer a)) }
+    ensures moves { (m : EngineMoved) (old new : World) → EngineAnswers asked_answer asked.entry m old new
+        → EngineAnswers gave_up result m old new }
+    ensures stands { (h : History) (event : Event) (new : World)
+        → StandsAfter asked_answer asked.entry h event new → StandsAfter gave_up result h event new }
+    ensures err { (old new : World) → OnErr asked.entry (new ≡ old) → OnErr result (new ≡ old) }
+{
+    match asked? {
+        Asked::GivenUp(number) => Ok(number),
+        Asked::Number(_) | Asked::Done | Asked::Step(_) => unreachable!(),
     }
 }

@@ -2,7 +2,7 @@
 
 // Hints to inline: each step of an engine runs through it; docs/PERF.md says what the whole of it inlined gains.
 
-ghost use Rattle.std.specs.Prelude.{◌≡◌, ◌<◌, ◌+◌, None, OnErr, OnOk, IfSome};
+ghost use Rattle.std.specs.Prelude.{◌≡◌, ◌<◌, ◌+◌, None, OnErr, OnOk, IfSome, option_copied};
 ghost use Rattle.std.specs.Option.{option_map};
 ghost use Rattle.ber_core.specs.ObjectIdentifier.{IsObjectIdentifier};
 ghost use Rattle.tcap_reception.specs.PortionParts.{context_of_portion, info_of_portion};
@@ -12,15 +12,18 @@ ghost use Rattle.tcap_engine.specs.StepForm.{EngineAnswers, ReceivesInto, birth_
 ghost use Rattle.tcap_engine.specs.HistoryForm.{Stands};
 ghost use Rattle.tcap_engine.specs.DialogueEntries.{IsWithin, with_created};
 ghost use Rattle.tcap_engine.specs.Lapsing.{timer_of};
-ghost use Rattle.tcap_model.specs.Table.EngineMove.{engine_move, begun_in, birth_fault_in, setting_in};
+ghost use Rattle.tcap_model.specs.Table.EngineMove.{engine_move, begun_in, birth_fault_in, setting_in, received_in};
 ghost use Rattle.tcap_model.specs.Table.TableMove.{born};
 ghost use Rattle.tcap_model.specs.Words.Event.{Event};
 ghost use Rattle.tcap_model.specs.Words.Identifiers.{last_dialogue};
+ghost use Rattle.tcap_model.specs.Procedures.PortionRules.{begin_verdict};
+ghost use Rattle.tcap_model.specs.Procedures.Reception.{begin_by};
+ghost use Rattle.tcap_model.specs.Words.Address.{Address};
 
 use super::Engine;
 use ber_core::OutOfMemory;
 use std::alloc::Allocator;
-use tcap_dialogue::{Address, Dialogue, Fault, Sink, SinkKind};
+use tcap_dialogue::{Abort, Address, BeginVerdict, Dialogue, Fault, Sink, SinkKind, judge_begin};
 use tcap_pdu::TransId;
 use tcap_reception::AarqParts;
 
@@ -50,6 +53,37 @@ impl<A: Allocator + Copy> Engine<A> {
         let identifier = self.next_dialogue;
         self.keep(self.fresh())?;
         Ok(identifier)
+    }
+
+    /// A Begin where a dialogue can be created: it is accepted or aborted, by its dialogue portion
+    /// (Q.774, Dialogue begin).
+    #[inline(always)]
+    pub(super) fn take_begin<'m, K: SinkKind>(
+        &mut self,
+        from: &Address,
+        origin: &TransId,
+        dialogue: Option<&'m [u8]>,
+        components: &'m [u8],
+        sink: &mut Sink<'m, A, K>,
+    ) -> Result<(), OutOfMemory>
+        requires free { birth_fault_in self.old ≡ None }
+        ensures { ReceivesInto sink.old.outputs sink.new.outputs result (received_in self.old from.now
+            (begin_by (begin_verdict (option_copied dialogue.entry)) origin.now components.now)) self.old self.new }
+    {
+        match judge_begin(dialogue) {
+            BeginVerdict::Plain => self.accept_begin(from, origin, None, components, sink),
+            BeginVerdict::Context { context, info } => {
+                self.accept_begin(from, origin, Some((context, info)), components, sink)
+            }
+            BeginVerdict::WrongVersion { context } => {
+                let peer = origin.copied();
+                self.abort(from, &Abort::WrongVersion { peer, context }, sink)
+            }
+            BeginVerdict::Abnormal => {
+                let peer = origin.copied();
+                self.abort(from, &Abort::Abnormal { peer }, sink)
+            }
+        }
     }
 
     /// A Begin creates a dialogue: what is told (Q.774, Dialogue begin).

@@ -11,7 +11,7 @@ ghost use Rattle.tcap_model.specs.Words.Request as model;
 ghost use Rattle.tcap_model.specs.Words.Request.{DialogueRequest};
 
 use super::Engine;
-use super::request_answers::told;
+use super::requests::told;
 use std::alloc::Allocator;
 use tcap_dialogue::{
     AbortRequest, AbortWhy, Address, BeginRequest, ContinueRequest, EndRequest, Ending, Fault,

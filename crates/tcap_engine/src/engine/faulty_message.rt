@@ -1,11 +1,18 @@
 //! Bytes that are no message that can be read.
 
-ghost use Rattle.std.specs.Prelude.{◌≡◌};
-ghost use Rattle.tcap_engine.specs.StepForm.{ReceivesInto};
+ghost use Rattle.std.specs.Prelude.{◌≡◌, true, ◌++◌, nat_eq, OnOk, OnErr, IsSome};
+ghost use Rattle.tcap_engine.specs.StepForm.{ReceivesInto, since_answer};
 ghost use Rattle.tcap_model.specs.Procedures.Reception.{aborted_or_dropped, fault_abort, faulty};
-ghost use Rattle.tcap_model.specs.Table.EngineMove.{is_live_in, received_in};
+ghost use Rattle.tcap_model.specs.Table.EngineMove.{is_live_in, received_in, dialogue_in, reached_in};
+ghost use Rattle.tcap_model.specs.Procedures.AbortRules.{fault_cause, sent_if_any};
+ghost use Rattle.tcap_model.specs.Table.TableMove.{DialogueEvent, table_move};
+ghost use Rattle.std.specs.Map.{lookup};
+ghost use Rattle.tcap_dialogue.specs.StepViews.{at_clock, outcome};
+ghost use Rattle.tcap_engine.specs.RequestInTable.{DeliversInTable};
+ghost use Rattle.tcap_primitives.specs.SinkViews.{KeepsOutputs};
 
 use super::Engine;
+use crate::dialogues::{Dialogues, settle};
 use ber_core::OutOfMemory;
 use std::alloc::Allocator;
 use tcap_dialogue::{Address, Cause, DropWhy, Sink, SinkKind};
@@ -64,4 +71,47 @@ impl<A: Allocator + Copy> Engine<A> {
             None => self.drop_message(DropWhy::BadMessage, sink),
         }
     }
+
+    /// A faulty message ends a live dialogue; an Abort with the fault's cause goes first to the address that it
+    /// came from, if the originator is known (our own, after Q.774, Abnormal procedures).
+    fn abort_by_fault<'m, K: SinkKind>(
+        &mut self,
+        identifier: u32,
+        from: &Address,
+        origin: Option<TransId>,
+        fault: FrameFault,
+        sink: &mut Sink<'m, A, K>,
+    ) -> Result<(), OutOfMemory>
+        requires { is_live_in self.old.dialogues identifier ≡ true }
+        ensures { ReceivesInto sink.old.outputs sink.new.outputs result
+            (reached_in self.old identifier (sent_if_any from.now (fault_abort fault origin))
+            (DialogueEvent.fault (fault_cause fault)) (dialogue_in identifier self.old.dialogues)) self.old self.new }
+    {
+        abort_in(&mut self.table, identifier, from, origin, fault, sink)
+    }
+}
+
+/// A faulty message names the dialogue of an identifier, which is over then and is taken out.
+fn abort_in<'m, A: Allocator + Copy, K: SinkKind>(
+    table: &mut Dialogues<A>,
+    identifier: u32,
+    from: &Address,
+    origin: Option<TransId>,
+    fault: FrameFault,
+    sink: &mut Sink<'m, A, K>,
+) -> Result<(), OutOfMemory>
+    requires { IsSome (lookup (nat_eq identifier) table.old) }
+    ensures reached { DeliversInTable (since_answer (sink.old.outputs
+        ++ sent_if_any from.now (fault_abort fault origin)) sink.new.outputs) result
+        (λ x. outcome (table_move (at_clock 0) x (DialogueEvent.fault (fault_cause fault)))) identifier
+        (lookup (nat_eq identifier) table.old) table.old table.new }
+    ensures kept { OnOk result (KeepsOutputs (sink.old.outputs
+        ++ sent_if_any from.now (fault_abort fault origin)) sink.new.outputs) }
+    ensures still { OnErr result (sink.new.outputs ≡ sink.old.outputs) }
+{
+    // It stands, as the caller has seen; see `deliver_in` of receive.rt.
+    let dialogue = table.rows.get_mut(identifier).unwrap();
+    dialogue.take_faulty(from, origin, fault, sink)?;
+    settle(&mut table.rows, &mut table.spares, identifier, true, None);
+    Ok(())
 }

@@ -1,19 +1,16 @@
 //! What is seen of an engine.
 
-ghost use Rattle.std.specs.Prelude.{◌≡◌, ℕ, [], true, false, option_copied};
+ghost use Rattle.std.specs.Prelude.{◌≡◌, [], option_copied};
 ghost use Rattle.tcap_engine.specs.StateOf.{state_in, state_in_life};
-ghost use Rattle.tcap_engine.specs.NextTimer.{IsAccepted, IsChanged, IsStill, next_timer_in};
 ghost use Rattle.tcap_model.specs.Histories.Clock.{clock};
 ghost use Rattle.tcap_model.specs.Histories.History.{History};
 ghost use Rattle.tcap_model.specs.Histories.Life.{life};
 ghost use Rattle.tcap_model.specs.Table.EngineMove.{dialogue_in};
 ghost use Rattle.tcap_model.specs.Table.World.{StandsAt};
-ghost use Rattle.timed_table.specs.Row.{is_due};
 
 use super::Engine;
 use std::alloc::Allocator;
 use tcap_dialogue::{Dialogue, State};
-use tcap_invocation::MAX_MOMENT;
 
 impl<A: Allocator + Copy> Engine<A> {
     /// The clock: the last moment that was accepted, in milliseconds, 0 to 2^62.
@@ -32,24 +29,6 @@ impl<A: Allocator + Copy> Engine<A> {
         ensures stands { (h : History) → StandsAt h self.now → result ≡ state_in_life (life dialogue h.pairs) }
     {
         self.dialogue_at(dialogue).map(Dialogue::state)
-    }
-
-    /// The least moment, in milliseconds, at which `advance` tells something, frees an identifier or ends a
-    /// dialogue; `None` where none is. A caller may sleep until then. It takes no memory (our own).
-    pub fn next_timer(&self) -> Option<u64>
-        ensures value { result ≡ next_timer_in self.now }
-        // A moment below it does nothing but set the clock; one from it on changes a dialogue.
-        ensures before { (now : ℕ) → IsAccepted self.now now
-            → is_due now result ≡ false → IsStill self.now now }
-        ensures reached { (now : ℕ) → IsAccepted self.now now
-            → is_due now result ≡ true → IsChanged self.now now }
-    {
-        let first = self.table.first_timer()?;
-        if first.0 <= MAX_MOMENT {
-            Some(first.0)
-        } else {
-            None
-        }
     }
 
     /// The dialogue with this identifier, if it stands.

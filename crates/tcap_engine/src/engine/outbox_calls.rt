@@ -12,7 +12,7 @@ ghost use Rattle.tcap_primitives.specs.RequestViews.{ending_view, reason_view, r
 ghost use Rattle.tcap_primitives.specs.SinkViews.{KeepsOutputs};
 
 use super::Engine;
-use super::request_answers::told;
+use super::requests::told;
 use ber_core::OutOfMemory;
 use std::alloc::Allocator;
 use std::mem;

@@ -3,27 +3,34 @@
 
 // Hints to inline: each step of an engine runs through it; docs/PERF.md says what the whole of it inlined gains.
 
-ghost use Rattle.std.specs.Prelude.{◌≡◌, ◌++◌, ◌∷◌, [], None, is_some, option_copied, true, IfSome, OnOk, OnErr};
+ghost use Rattle.std.specs.Prelude.{◌≡◌, ◌++◌, ◌∷◌, [], None, is_some, option_copied, true, IfSome, OnOk, OnErr, ◌≤◌, nat_eq, IsSome};
 ghost use Rattle.tcap_primitives.specs.AbortViews.{CanWriteAbort, abort_sent, cause_number};
 ghost use Rattle.tcap_primitives.specs.OutputViews.{drop_view};
 ghost use Rattle.tcap_engine.specs.StepForm.{EngineReceives, ReceivesInto, outputs_answer, since_answer};
 ghost use Rattle.tcap_engine.specs.HistoryForm.{StandsReceived};
 ghost use Rattle.tcap_engine.specs.StateOf.{state_in};
 ghost use Rattle.tcap_model.specs.Procedures.AbortRules.{abort_with, message_sent};
-ghost use Rattle.tcap_model.specs.Procedures.PortionRules.{begin_verdict, uni_verdict};
-ghost use Rattle.tcap_model.specs.Procedures.Reception.{addressed, begin_by, message_by, uni_by};
-ghost use Rattle.tcap_model.specs.Table.EngineMove.{birth_fault_in, engine_move, is_live_in, received_in};
+ghost use Rattle.tcap_model.specs.Procedures.PortionRules.{uni_verdict};
+ghost use Rattle.tcap_model.specs.Procedures.Reception.{addressed, message_by, uni_by};
+ghost use Rattle.tcap_model.specs.Table.EngineMove.{birth_fault_in, engine_move, is_live_in, received_in, dialogue_in, reached_in};
 ghost use Rattle.tcap_model.specs.Words.Address.{Address};
 ghost use Rattle.tcap_model.specs.Words.Event.{Event};
 ghost use Rattle.tcap_model.specs.Words.Output as model;
 ghost use Rattle.tcap_pdu.specs.FrameViews.{message};
+ghost use Rattle.tcap_model.specs.Table.TableMove.{DialogueEvent, table_move};
+ghost use Rattle.std.specs.Map.{lookup};
+ghost use Rattle.tcap_dialogue.specs.StepViews.{at_clock, outcome};
+ghost use Rattle.tcap_engine.specs.RequestInTable.{DeliversInTable};
+ghost use Rattle.tcap_invocation.specs.Stage.{moment_limit};
+ghost use Rattle.tcap_primitives.specs.SinkViews.{KeepsOutputs};
 
 use super::Engine;
+use crate::dialogues::{Dialogues, settle, timer_after};
 use ber_core::OutOfMemory;
 use std::alloc::Allocator;
 use tcap_dialogue::{
-    Abort, Address, BeginVerdict, Cause, DropWhy, Indication, Output, PortionVerdict, Sink,
-    SinkKind, State, judge_begin, judge_uni, take_uni_into,
+    Abort, Address, Cause, DropWhy, Indication, Output, PortionVerdict, Sink, SinkKind, State,
+    judge_uni, take_uni_into,
 };
 use tcap_pdu::{Frame, MAX_MESSAGE, TransId, read_frame};
 use tcap_primitives::ranges;
@@ -146,37 +153,6 @@ impl<A: Allocator + Copy> Engine<A> {
         take_uni_into(request, components, sink)
     }
 
-    /// A Begin where a dialogue can be created: it is accepted or aborted, by its dialogue portion
-    /// (Q.774, Dialogue begin).
-    #[inline(always)]
-    fn take_begin<'m, K: SinkKind>(
-        &mut self,
-        from: &Address,
-        origin: &TransId,
-        dialogue: Option<&'m [u8]>,
-        components: &'m [u8],
-        sink: &mut Sink<'m, A, K>,
-    ) -> Result<(), OutOfMemory>
-        requires free { birth_fault_in self.old ≡ None }
-        ensures { ReceivesInto sink.old.outputs sink.new.outputs result (received_in self.old from.now
-            (begin_by (begin_verdict (option_copied dialogue.entry)) origin.now components.now)) self.old self.new }
-    {
-        match judge_begin(dialogue) {
-            BeginVerdict::Plain => self.accept_begin(from, origin, None, components, sink),
-            BeginVerdict::Context { context, info } => {
-                self.accept_begin(from, origin, Some((context, info)), components, sink)
-            }
-            BeginVerdict::WrongVersion { context } => {
-                let peer = origin.copied();
-                self.abort(from, &Abort::WrongVersion { peer, context }, sink)
-            }
-            BeginVerdict::Abnormal => {
-                let peer = origin.copied();
-                self.abort(from, &Abort::Abnormal { peer }, sink)
-            }
-        }
-    }
-
     /// The live dialogue that a destination names, by the four octets of its identifier; what is done to it then finds
     /// it at once.
     #[inline(always)]
@@ -212,6 +188,23 @@ impl<A: Allocator + Copy> Engine<A> {
         ensures same { self.new ≡ self.old }
     {
         self.table.find_state(dialogue)
+    }
+
+    /// A live dialogue takes a Continue, an End or an Abort (Q.774, Transaction sublayer procedures).
+    #[inline(always)]
+    fn deliver<'m, K: SinkKind>(
+        &mut self,
+        identifier: u32,
+        from: &Address,
+        frame: &Frame<'m>,
+        sink: &mut Sink<'m, A, K>,
+    ) -> Result<(), OutOfMemory>
+        requires { is_live_in self.old.dialogues identifier ≡ true }
+        ensures { ReceivesInto sink.old.outputs sink.new.outputs result
+            (reached_in self.old identifier [] (DialogueEvent.frame from.now (message frame.now))
+            (dialogue_in identifier self.old.dialogues)) self.old self.new }
+    {
+        deliver_in(&mut self.table, identifier, self.clock, from, frame, sink)
     }
 
     /// A message is dropped, which is told.
@@ -261,4 +254,37 @@ impl<A: Allocator + Copy> Engine<A> {
         let peer = peer.copied();
         self.abort(to, &Abort::Cause { peer, cause }, sink)
     }
+}
+
+/// A message to the dialogue of an identifier, which is taken out where it is over.
+#[inline(always)]
+fn deliver_in<'m, A: Allocator + Copy, K: SinkKind>(
+    table: &mut Dialogues<A>,
+    identifier: u32,
+    clock: u64,
+    from: &Address,
+    frame: &Frame<'m>,
+    sink: &mut Sink<'m, A, K>,
+) -> Result<(), OutOfMemory>
+    requires clock { clock ≤ moment_limit }
+    requires stands { IsSome (lookup (nat_eq identifier) table.old) }
+    ensures reached { DeliversInTable (since_answer sink.old.outputs sink.new.outputs)
+        result (λ x. outcome (table_move (at_clock clock) x (DialogueEvent.frame from.now (message frame.now))))
+        identifier (lookup (nat_eq identifier) table.old) table.old table.new }
+    ensures kept { KeepsOutputs sink.old.outputs sink.new.outputs }
+    ensures still { OnErr result (sink.new.outputs ≡ sink.old.outputs) }
+{
+    // It stands, as the caller has seen. Handed on, it would hold the table, which `settle` changes; the table remembers
+    // its last find, so this one is a comparison.
+    let dialogue = table.rows.get_mut(identifier).unwrap();
+    let is_over = dialogue.take_frame_with(&mut table.spares, from, frame, clock, sink)?;
+    let timer = timer_after(dialogue, is_over);
+    settle(
+        &mut table.rows,
+        &mut table.spares,
+        identifier,
+        is_over,
+        timer,
+    );
+    Ok(())
 }

@@ -2,7 +2,7 @@ use Rattle.std.proofs.Common.{rules, arith, ◌<◌, List}
 use Rattle.tcap_engine.specs.Lapsing.{AreUntimed, IsFirstTimer}
 use Rattle.tcap_engine.specs.DialogueEntries.{TableEntry}
 use Rattle.tcap_engine.proofs.QuietLemmas.{late-quiet, idle-late, behind-late}
-use Rattle.tcap_engine.proofs.engine.moment.first_timer_by.Goals as goal
+use Rattle.tcap_engine.proofs.engine.advance.first_timer_by.Goals as goal
 
 pub returns-in_err-first-clause-first : goal.returns-in_err-first-clause-first
 returns-in_err-first-clause-first g c =

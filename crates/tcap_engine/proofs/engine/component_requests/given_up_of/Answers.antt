@@ -1,5 +1,5 @@
 use Rattle.std.proofs.Common.{rules}
-use Rattle.tcap_engine.proofs.engine.request_answers.given_up_of.Goals as goal
+use Rattle.tcap_engine.proofs.engine.component_requests.given_up_of.Goals as goal
 
 pub returns-clause-moves : goal.returns-clause-moves
 returns-clause-moves g c = search rules

@@ -3,7 +3,7 @@ use Rattle.tcap_model.specs.Table.DueLapses.{all_told}
 use Rattle.tcap_engine.specs.IdleDialogues.{ends_in, idle_ids, left_by}
 use Rattle.tcap_engine.specs.Lapsing.{step_count}
 use Rattle.tcap_engine.specs.DialogueEntries.{AreFrom, dialogues_of}
-use Rattle.tcap_engine.proofs.engine.moment.tell_due.Given as goal
+use Rattle.tcap_engine.proofs.engine.advance.tell_due.Given as goal
 
 abbrev pub invariant-loop-identifier : goal.invariant-loop-identifier
 invariant-loop-identifier g l = record {

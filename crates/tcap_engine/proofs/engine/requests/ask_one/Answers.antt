@@ -6,7 +6,7 @@ use Rattle.tcap_component.specs.Views.{code_parts}
 use Rattle.tcap_primitives.specs.declared.fault.Fault.TheVariants as fault
 use Rattle.tcap_model.specs.Words.Identifiers.{are_numbers_spent}
 use Rattle.tcap_engine.proofs.SpentLemmas.{spent-refused}
-use Rattle.tcap_engine.proofs.engine.request_in_table.ask_one.Goals as goal
+use Rattle.tcap_engine.proofs.engine.requests.ask_one.Goals as goal
 
 pub returns-in-Invoke-clause-answer : goal.returns-in-Invoke-clause-answer
 returns-in-Invoke-clause-answer g c =

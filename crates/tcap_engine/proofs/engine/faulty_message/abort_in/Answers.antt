@@ -1,48 +1,51 @@
-use Rattle.std.proofs.Common.{rules, ◌≡◌, ◌∙◌, ap, refl, nat_eq, List, Some, Err}
+use Rattle.std.proofs.Common.{rules, ◌≡◌, ◌++◌, ◌∙◌, true, ap, refl, nat_eq, List, Some, Err}
 use Rattle.std.proofs.lemmas.Map.Steps.{set_value_same}
 use Rattle.std.specs.Map.{lookup, set_value}
 use Rattle.tcap_dialogue.specs.declared.dialogue.requests.Accepted.TheVariants as accepted
 use Rattle.tcap_dialogue.specs.StepViews.{Outcome, at_clock, outcome}
 use Rattle.tcap_model.specs.Table.TableMove.{DialogueEvent, table_move}
-use Rattle.tcap_pdu.specs.FrameViews.{message}
+use Rattle.tcap_model.specs.Procedures.AbortRules.{fault_cause, sent_if_any}
+use Rattle.tcap_model.specs.Procedures.Reception.{fault_abort}
+use Rattle.tcap_primitives.specs.SinkViews.{told_since}
 use Rattle.tcap_engine.specs.DialogueEntries.{TableEntry}
 use Rattle.tcap_engine.proofs.AskLemmas.{settled-placed}
-use Rattle.tcap_engine.proofs.TimedLemmas.{timed-still, timed-settled}
-use Rattle.tcap_primitives.specs.SinkViews.{told_since}
+use Rattle.tcap_engine.proofs.TimedLemmas.{timed-gone, timed-still}
 use Rattle.timed_table.specs.Row.{entries_of}
-use Rattle.tcap_engine.proofs.engine.delivery.deliver_in.Goals as goal
+use Rattle.tcap_engine.proofs.engine.faulty_message.abort_in.Goals as goal
 
 pub invariant_of-table : goal.invariant_of-table
 invariant_of-table g c =
     let old = c.unwrap-dialogue.result.now in
-    let new = c.take_frame_with.new.self in
+    let new = c.take_faulty.new.self in
     let found : lookup (nat_eq c.args.identifier) (entries_of c.table.inside.rows) ≡ Some old = search rules in
     let same : new ≡ old = search rules in
     rw (c.get_mut.follows.holds new).rows (timed-still c.args.identifier old new c.table.inside.rows found same c.table.invariant)
 
-pub returns-in_err-is_over-clause-reached : goal.returns-in_err-is_over-clause-reached
-returns-in_err-is_over-clause-reached g c =
+pub returns-in_err-take_faulty-clause-reached : goal.returns-in_err-take_faulty-clause-reached
+returns-in_err-take_faulty-clause-reached g c =
     let ps : List TableEntry = entries_of c.table.inside.rows in
     let old = c.unwrap-dialogue.result.now in
-    let new = c.take_frame_with.new.self in
+    let new = c.take_faulty.new.self in
     let found : lookup (nat_eq c.args.identifier) ps ≡ Some old = search rules in
     let same : new ≡ old = search rules in
-    let is : c.from_residual.result ≡ Err c.in_err-is_over.field-0.0 = search rules in
+    let is : c.from_residual.result ≡ Err c.in_err-take_faulty.field-0.0 = search rules in
     rw (← c.table.view_is, is) ((c.get_mut.follows.holds new).entries ∙ ap (set_value (nat_eq c.args.identifier) ps) same ∙ set_value_same (nat_eq c.args.identifier) ps old found)
 
 pub invariant_of-table-2 : goal.invariant_of-table-2
 invariant_of-table-2 g c =
-    let new = c.take_frame_with.new.self in
-    rw (c.settle.ensures.rows, (c.get_mut.follows.holds new).rows) (timed-settled c.in_ok-is_over.is_over c.args.identifier new _ c.table.inside.rows c.timer_after-timer.ensures c.table.invariant)
+    let new = c.take_faulty.new.self in
+    rw (c.settle.ensures.rows, (c.get_mut.follows.holds new).rows) (timed-gone c.args.identifier new c.table.inside.rows c.table.invariant)
 
 pub returns-clause-reached : goal.returns-clause-reached
 returns-clause-reached g c =
     let ps : List TableEntry = entries_of c.table.inside.rows in
     let old = c.unwrap-dialogue.result.now in
-    let new = c.take_frame_with.new.self in
-    let s = c.in_ok-is_over.is_over in
+    let new = c.take_faulty.new.self in
     let found : lookup (nat_eq c.args.identifier) ps ≡ Some old = search rules in
-    let o : Outcome = outcome (table_move (at_clock c.args.clock) old (DialogueEvent.frame c.args.from.now (message c.args.frame.now))) in
+    let o : Outcome = outcome (table_move (at_clock 0) old (DialogueEvent.fault (fault_cause c.args.fault))) in
     rw (← c.table.view_is, found)
-    (settled-placed (told_since c.args.sink.now.outputs c.take_frame_with.new.sink.outputs) new c.args.identifier ps s (accepted.Step s) o (entries_of c.settle.new.rows) c.in_ok-is_over.ensures.ok.1 refl
+    (settled-placed (told_since (c.args.sink.now.outputs ++ sent_if_any c.args.from.now (fault_abort c.args.fault c.args.origin)) c.take_faulty.new.sink.outputs) new c.args.identifier ps true (accepted.Step true) o (entries_of c.settle.new.rows) (c.in_ok-take_faulty.ensures.ok (at_clock 0)).1 refl
     (rw (c.get_mut.follows.holds new).entries at c.settle.ensures.entries))
+
+pub returns-clause-kept : goal.returns-clause-kept
+returns-clause-kept g c = (c.in_ok-take_faulty.ensures.ok (at_clock 0)).0

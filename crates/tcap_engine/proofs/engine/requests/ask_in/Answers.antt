@@ -12,7 +12,7 @@ use Rattle.tcap_engine.specs.RequestInTable.{keeps_timer}
 use Rattle.tcap_dialogue.proofs.CallerLemmas.{refused-same}
 use Rattle.tcap_engine.proofs.TimedLemmas.{timed-alike, timed-still, timed-settled}
 use Rattle.timed_table.specs.Row.{entries_of}
-use Rattle.tcap_engine.proofs.engine.request_in_table.ask_in.Goals as goal
+use Rattle.tcap_engine.proofs.engine.requests.ask_in.Goals as goal
 
 pub invariant_of-table-in_err-accepted : goal.invariant_of-table-in_err-accepted
 invariant_of-table-in_err-accepted g c =

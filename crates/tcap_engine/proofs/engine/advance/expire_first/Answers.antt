@@ -5,7 +5,7 @@ use Rattle.tcap_engine.specs.DialogueEntries.{TableEntry}
 use Rattle.tcap_engine.proofs.PassedLemmas.{expires, fits, ran, tells, told-within}
 use Rattle.tcap_engine.proofs.TimedLemmas.{timed-set}
 use Rattle.timed_table.specs.Row.{entries_of}
-use Rattle.tcap_engine.proofs.engine.moment.expire_first.Goals as goal
+use Rattle.tcap_engine.proofs.engine.advance.expire_first.Goals as goal
 
 pub invariant_of-table-2 : goal.invariant_of-table-2
 invariant_of-table-2 g c =
