@@ -8,5 +8,6 @@ pub mod ListGrammar
 pub mod PartGrammar
 pub mod PlaceSteps
 pub mod SpelledWritable
+pub mod TakingLemmas
 pub mod WrittenGrammar
 pub mod WrittenSpelling

@@ -6,6 +6,7 @@ pub mod parts;
 pub mod range;
 pub mod read;
 pub mod reject;
+pub mod take;
 pub mod write;
 
 use crate::problem::Problem;

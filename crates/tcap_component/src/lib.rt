@@ -15,6 +15,7 @@ pub use component::append::append_component;
 pub use component::length::{component_fault, component_len, judge_component};
 pub use component::read::read_component;
 pub use component::reject::{MAX_REJECT, reject_octets};
+pub use component::take::take_component;
 pub use component::write::write_component;
 pub use component::{Body, Code, Component};
 pub use components::Components;

@@ -93,7 +93,7 @@ fn read_result_more<'a>(content: &'a [u8]) -> Option<Component<'a>>
 
 /// The component that the contents are, by its form.
 #[inline(always)]
-fn read_contents<'a>(form: Form, content: &'a [u8]) -> Option<Component<'a>>
+pub(crate) fn read_contents<'a>(form: Form, content: &'a [u8]) -> Option<Component<'a>>
     ensures value { option_map component_parts result ≡ contents_at form content.now }
     ensures place { IfSome result (λ c. FieldsOnWay [] c content.entry) }
 {
@@ -109,7 +109,7 @@ fn read_contents<'a>(form: Form, content: &'a [u8]) -> Option<Component<'a>>
 /// The form that a tag names.
 #[tactic(auto, unfolding(crate::specs::ComponentReading::form_at))]
 #[inline(always)]
-fn form_of(octets: &[u8]) -> Option<Form>
+pub(crate) fn form_of(octets: &[u8]) -> Option<Form>
     ensures { result ≡ form_at octets.now }
 {
     match octets {
