@@ -6,7 +6,6 @@ pub mod CanonicalTwice
 pub mod GoodItems
 pub mod HexLanes
 pub mod HexSteps
-pub mod ItemLines
 pub mod MessageSteps
 pub mod PrintedHex
 pub mod SpelledWords

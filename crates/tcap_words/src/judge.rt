@@ -14,7 +14,7 @@ use crate::text::add_number;
 use crate::verdict::Verdict;
 use ber_core::OutOfMemory;
 use std::alloc::Allocator;
-use tcap_component::Components;
+use tcap_component::take_component;
 use tcap_pdu::{AbortPart, DialoguePdu, Frame, FrameFault, MAX_MESSAGE, read_dialogue, read_frame};
 
 /// The verdict on bytes that are no message.
@@ -83,10 +83,12 @@ fn faulty_place(components: &[u8]) -> Option<usize>
     ensures below { IfSome result (λ place. place < length components.now) }
 {
     let mut place: usize = 0;
-    for item in Components::new(components) {
-        if item.is_err() {
+    let mut rest = components;
+    while !rest.is_empty() {
+        let Some((_, after)) = take_component(rest) else {
             return Some(place);
-        }
+        };
+        rest = after;
         place += 1;
     }
     None

@@ -1,12 +1,13 @@
 use Rattle.std.proofs.Common.{◌≡◌, ◌+◌, ◌≤◌, length, is_err}
 use Rattle.std.specs.List.{position_from}
 use Rattle.tcap_component.specs.ComponentReading.{components_of}
-use Rattle.tcap_component.specs.Views.{components_left}
 use Rattle.tcap_words.proofs.judge.faulty_place.Given as goal
 
-abbrev pub invariant-loop-item : goal.invariant-loop-item
-invariant-loop-item l =
-    (goal.iterator-loop-item).can_next l.item-iterator
-    × (goal.iterator-loop-item).is_finite l.item-iterator
-    × (position_from is_err l.place (components_left l.item-iterator) ≡ position_from is_err 0 (components_of l.components))
-    × (l.place + length (components_left l.item-iterator) ≤ length l.components)
+-- the first faulty one of all is that of what is left
+abbrev pub invariant-loop-rest : goal.invariant-loop-rest
+invariant-loop-rest l =
+    (position_from is_err l.place (components_of l.rest) ≡ position_from is_err 0 (components_of l.components))
+    × (l.place + length l.rest ≤ length l.components)
+
+abbrev pub decreases-loop-rest : goal.decreases-loop-rest
+decreases-loop-rest l = length l.rest
