@@ -5,6 +5,7 @@ pub mod ComponentStands
 pub mod EncodingLemmas
 pub mod FaultAtLemmas
 pub mod FaultThere
+pub mod ListedLemmas
 pub mod MessageAgain
 pub mod MessageRead
 pub mod MessageStands

@@ -9,6 +9,7 @@ use Rattle.ber_core.specs.SequenceReading.{is_tag}
 use Rattle.ber_core.specs.Way.{inside, way_to}
 use Rattle.ber_core.proofs.CallerLemmas.{by_result, element_again}
 use Rattle.tcap_pdu.specs.FrameReading.{frame_at}
+use Rattle.tcap_pdu.specs.FrameLength.{dialogue_of}
 use Rattle.tcap_pdu.specs.FrameSpelling.{IsFrame, Message, message_tag}
 use Rattle.tcap_pdu.proofs.FrameGrammar.{frame_again}
 use Rattle.tcap_component.specs.Component.{ComponentParts}
@@ -16,9 +17,9 @@ use Rattle.tcap_component.specs.ComponentFault.{FaultParts}
 use Rattle.tcap_component.specs.ComponentReading.{component_at, components_of}
 use Rattle.tcap_component.proofs.CallerLemmas.{components_of-next}
 use Rattle.tcap_words.specs.declared.verdict.Verdict.{Verdict}
-use Rattle.tcap_words.specs.declared.verdict.Verdict.TheVariants.{Component}
+use Rattle.tcap_words.specs.declared.verdict.Verdict.TheVariants.{Component, Dialogue}
 use Rattle.tcap_words.specs.Verdict.{components_verdict, message_limit, message_of, message_verdict, verdict_by, verdict_by_place, verdict_of}
-use Rattle.tcap_explain.specs.Explaining.{component_fault, explained_at, explained_by, in_message, left_of}
+use Rattle.tcap_explain.specs.Explaining.{component_fault, dialogue_fault, explained_at, explained_by, in_message, left_of}
 use Rattle.tcap_explain.proofs.WayLemmas.{inside-here, left-fault}
 
 -- ---- the message that an element is
@@ -52,6 +53,10 @@ tag-is e m is = same-tag (message_tag m) e.tag is.is_tag
 pub explained-component : (bytes : List ℕ) (m : Message) (number : ℕ) → message_of bytes ≡ Ok m → message_verdict m ≡ Component number → explained_at bytes ≡ component_fault bytes m
 unfolding explained_at
 explained-component bytes m number is faulty = ap (λ (v : Verdict). explained_by v bytes) (ap verdict_by is ∙ faulty) ∙ ap (in_message (component_fault bytes)) is
+
+pub explained-dialogue : (bytes : List ℕ) (m : Message) → message_of bytes ≡ Ok m → message_verdict m ≡ Dialogue → explained_at bytes ≡ dialogue_fault bytes m (dialogue_of m)
+unfolding explained_at
+explained-dialogue bytes m is faulty = ap (λ (v : Verdict). explained_by v bytes) (ap verdict_by is ∙ faulty) ∙ ap (in_message (λ n. dialogue_fault bytes n (dialogue_of n))) is
 
 pub verdict-is : (bytes : List ℕ) (m : Message) → message_of bytes ≡ Ok m → message_verdict m ≡ verdict_of bytes
 verdict-is bytes m is = sym (ap verdict_by is)

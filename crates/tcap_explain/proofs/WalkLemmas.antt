@@ -25,7 +25,7 @@ tag_filled : (tag : List ℕ) → IsTag tag → 0 < length tag
 tag_filled [] h = absurd h
 tag_filled (b ∷ tag) h = omega arith
 
-head_from : (bytes : List ℕ) (h : HeadRead) → head_at bytes ≡ Ok h → head_length bytes ≡ length bytes - length h.3
+pub head_from : (bytes : List ℕ) (h : HeadRead) → head_at bytes ≡ Ok h → head_length bytes ≡ length bytes - length h.3
 unfolding head_length
 head_from bytes h e = rw e refl
 
@@ -39,6 +39,14 @@ definite_fits e d =
     let len : length e.whole ≡ length e.tag + (length d.octets + length e.content) = ap length d.is_whole ∙ (length-append e.tag (d.octets ++ e.content) ∙ ap (λ (n : ℕ). length e.tag + n) (length-append d.octets e.content)) in
     let filled = tag_filled e.tag d.is_tag in
     (omega (arith, head, len), omega (arith, len, filled))
+
+-- nothing stands behind the content
+pub definite_fills : (e : Parts) → IsDefinite e → length e.whole - head_length e.whole ≡ length e.content
+definite_fills e d =
+    let read = ap head_at d.is_whole ∙ head_again-definite e.tag d.octets e.content (length e.content) d.is_tag d.is_length in
+    let head = head_from e.whole (e.tag, is_constructor e.tag, Some (length e.content), e.content) read in
+    let len : length e.whole ≡ length e.tag + (length d.octets + length e.content) = ap length d.is_whole ∙ (length-append e.tag (d.octets ++ e.content) ∙ ap (λ (n : ℕ). length e.tag + n) (length-append d.octets e.content)) in
+    omega (arith, head, len)
 
 indefinite_fits : (Inner : Parts → Type 0) (e : Parts) → IsIndefinite Inner e → ContentFits e
 indefinite_fits Inner e i =

@@ -1,17 +1,21 @@
 -- Where the content that a tag leads to begins, element by element; and what is left behind components.
-use Rattle.std.proofs.Common.{◌≡◌, ℕ, zero, suc, ◌+◌, ◌-◌, ◌<◌, ◌≤◌, true, false, List, [], ◌∷◌, ◌++◌, length, Ok, Err, Result, refl, sym, ap, ◌∙◌, arith}
+use Rattle.std.proofs.Common.{◌≡◌, ℕ, zero, suc, ◌+◌, ◌-◌, ◌<◌, ◌≤◌, true, false, List, [], ◌∷◌, ◌++◌, length, is_ok, Ok, Err, Result, refl, sym, ap, ◌∙◌, arith, inl, inr}
+use Rattle.std.specs.List.{list_all}
 use Rattle.std.proofs.lemmas.List.{length-append}
 use Rattle.ber_core.specs.declared.fault.BerFault.{BerFault}
 use Rattle.ber_core.specs.Element.{Parts}
-use Rattle.ber_core.specs.ElementReading.{element_at}
+use Rattle.ber_core.specs.ElementReading.{after_at, element_at, parts_of}
+use Rattle.ber_core.specs.HeadReading.{head_at}
+use Rattle.ber_core.specs.ListReading.{items_of}
 use Rattle.ber_core.specs.Place.{head_length}
 use Rattle.ber_core.specs.SequenceReading.{is_tag}
 use Rattle.ber_core.specs.Way.{further, inside, inside_items}
-use Rattle.ber_core.proofs.CallerLemmas.{element_takes, IsElement-longer, items_of-none, items_of-next, items_of-fault, head_length-whole}
+use Rattle.ber_core.proofs.CallerLemmas.{HeadRead, read, refused, read_is, by_result, element_takes, IsElement-longer, items_of-none, items_of-next, items_of-fault, head_length-whole}
 use Rattle.tcap_component.specs.Component.{ComponentParts}
 use Rattle.tcap_component.specs.ComponentFault.{FaultParts}
 use Rattle.tcap_component.specs.ComponentReading.{component_at}
 use Rattle.tcap_component.proofs.CallerLemmas.{component_takes}
+use Rattle.tcap_explain.proofs.WalkLemmas.{head_from}
 use Rattle.tcap_explain.specs.Explaining.{left_from, left_by, left_of}
 
 -- ---- the element that a tag finds
@@ -47,6 +51,44 @@ further-then a b p = ap (λ (n : ℕ). at_place n p.1) (omega arith)
 
 pub further-nothing : (p : ℕ × List ℕ) → further 0 p ≡ p
 further-nothing p = ap (λ (n : ℕ). at_place n p.1) (omega arith)
+
+-- by the head alone
+pub read-tag : (bytes rest : List ℕ) (e : Parts) (h : HeadRead) → element_at 32 bytes ≡ Ok (e, rest) → head_at bytes ≡ Ok h → e.tag ≡ h.0
+unfolding element_at
+read-tag bytes rest e h is head = elim (by_result (after_at 32 bytes)) [
+  | inl f ↦ let is = is in let no : refused f.0 ≡ Ok (e, rest) = rw (head, f.1) at is in absurd cc
+  | inr r ↦
+      let is = is in
+      let same : read (parts_of bytes h r.0, r.0) ≡ Ok (e, rest) = rw (head, r.1) at is in
+      ap (λ (p : Parts × List ℕ). p.0.tag) (sym (read_is _ _ same))
+]
+
+pub unread-head : (bytes : List ℕ) (f : BerFault) → head_at bytes ≡ Err f → element_at 32 bytes ≡ Err f
+unfolding element_at
+unread-head bytes f head = rw head refl
+
+abbrev AreRead : List ℕ → Type 0
+AreRead bytes = list_all is_ok (items_of bytes) ≡ true
+
+not-read : (bytes : List ℕ) (f : BerFault) → 0 < length bytes → element_at 32 bytes ≡ Err f → AreRead bytes → ⊥
+not-read bytes f lt is all = let all = all in let no : false ≡ true = rw (items_of-fault bytes f lt is) at all in absurd cc
+
+pub read-behind : (bytes rest : List ℕ) (e : Parts) → element_at 32 bytes ≡ Ok (e, rest) → AreRead bytes → AreRead rest
+read-behind bytes rest e is all = let all = all in let on : AreRead rest = rw (items_of-next bytes rest e is) at all in on
+
+module _ (tag : ℕ) (bytes : List ℕ) (h : HeadRead) (head : head_at bytes ≡ Ok h) (filled : 0 < length bytes) (all : AreRead bytes) where
+  pub inside-head : is_tag tag h.0 ≡ true → (inside tag bytes).0 ≡ length bytes - length h.3
+  inside-head y = elim (by_result (element_at 32 bytes)) [
+    | inl f ↦ absurd (not-read bytes f.0 filled f.1 all)
+    | inr r ↦
+        let tagged : is_tag tag r.0.0.tag ≡ true = ap (is_tag tag) (read-tag bytes r.0.1 r.0.0 h r.1 head) ∙ y in
+        ap (λ (p : ℕ × List ℕ). p.0) (inside-here tag bytes r.0.1 r.0.0 r.1 tagged) ∙ head_from bytes h head
+  ]
+
+-- no element is read
+pub inside-unread : (tag : ℕ) (bytes : List ℕ) (f : BerFault) → head_at bytes ≡ Err f → inside tag bytes ≡ at_place 0 []
+inside-unread tag [] f head = inside-none tag [] refl
+inside-unread tag (b ∷ bytes) f head = inside-fault tag (b ∷ bytes) f (omega arith) (unread-head (b ∷ bytes) f head)
 
 -- ---- what is left behind components
 

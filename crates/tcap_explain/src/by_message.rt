@@ -1,17 +1,17 @@
 //! Where the fault of a message is that was read: what is known of it isn't read again.
 
-ghost use Rattle.std.specs.Prelude.{◌≡◌, ◌≤◌, length, true, IfSome};
+ghost use Rattle.std.specs.Prelude.{◌≡◌, ◌≤◌, length, IfSome};
 ghost use Rattle.ber_core.specs.Element.{IsElement, depth_limit};
-ghost use Rattle.ber_core.specs.SequenceReading.{is_tag};
 ghost use Rattle.ber_core.specs.Views.{parts};
-ghost use Rattle.tcap_pdu.specs.FrameSpelling.{IsFrame, message_tag};
+ghost use Rattle.tcap_pdu.specs.FrameSpelling.{IsFrame};
+ghost use Rattle.tcap_pdu.specs.FrameLength.{dialogue_of};
 ghost use Rattle.tcap_pdu.specs.FramePortions.{components_in};
 ghost use Rattle.tcap_pdu.specs.FrameViews.{message};
 ghost use Rattle.tcap_words.specs.Verdict.{components_verdict, message_limit, message_verdict};
 ghost use Rattle.tcap_explain.specs.Walk.{IsWithin};
-ghost use Rattle.tcap_explain.specs.Explaining.{component_fault, explained_at, faulty_component, left_of};
+ghost use Rattle.tcap_explain.specs.Explaining.{component_fault, dialogue_fault, explained_at, faulty_component, left_of};
 
-use crate::by_verdict::{components_of, explain_verdict, tag_of, walk_at};
+use crate::by_verdict::{components_of, explain_verdict, external_of, portion_of, tag_of, walk_at};
 use crate::line::{ComponentLine, Explained, Line};
 use crate::walk::further_on;
 use crate::way::way_within;
@@ -55,7 +55,7 @@ fn explain_numbered(number: usize, content: &[u8]) -> Option<Explained>
 /// What is not met in the first faulty component of a message, by its number.
 fn explain_component(number: usize, element: &Element<'_>, frame: &Frame<'_>) -> Option<Explained>
     requires element { IsElement depth_limit (parts element.now) }
-    requires tag { is_tag (message_tag (message frame.now)) element.now.tag.now ≡ true }
+    requires frame { IsFrame (message frame.now) (parts element.now) }
     requires number { components_verdict (components_in (message frame.now)) ≡ Verdict.Component number }
     ensures { result ≡ component_fault element.now.whole.now (message frame.now) }
 {
@@ -63,6 +63,21 @@ fn explain_component(number: usize, element: &Element<'_>, frame: &Frame<'_>) ->
         Some(found) => {
             let before = way_within(tag_of(frame), tag::COMPONENT_PORTION, element);
             Some(further_on(before, found))
+        }
+        None => None,
+    }
+}
+
+/// What is not met in the dialogue portion of a message.
+fn explain_dialogue(element: &Element<'_>, frame: &Frame<'_>) -> Option<Explained>
+    requires element { IsElement depth_limit (parts element.now) }
+    requires frame { IsFrame (message frame.now) (parts element.now) }
+    ensures { result ≡ dialogue_fault element.now.whole.now (message frame.now) (dialogue_of (message frame.now)) }
+{
+    match portion_of(frame) {
+        Some(content) => {
+            let before = way_within(tag_of(frame), tag::DIALOGUE_PORTION, element);
+            walk_at(before, external_of(frame), content)
         }
         None => None,
     }
@@ -84,11 +99,11 @@ pub fn explain_message(
 {
     match verdict {
         Verdict::Component(number) => explain_component(number, element, frame),
+        Verdict::Dialogue => explain_dialogue(element, frame),
         Verdict::TooLong
         | Verdict::UnknownType
         | Verdict::BadlyFormatted
         | Verdict::Incorrect
-        | Verdict::Dialogue
         | Verdict::Good => explain_verdict(verdict, element.whole),
     }
 }

@@ -33,7 +33,7 @@ pub(crate) fn tag_of(frame: &Frame<'_>) -> u8
 }
 
 /// The line at which the dialogue portion of a message begins.
-fn external_of(frame: &Frame<'_>) -> Line
+pub(crate) fn external_of(frame: &Frame<'_>) -> Line
     ensures { result ≡ external_line (message frame.now) }
 {
     match frame {
@@ -45,7 +45,7 @@ fn external_of(frame: &Frame<'_>) -> Line
 }
 
 /// The contents of the dialogue portion of a message, if it has one.
-fn portion_of<'a>(frame: &Frame<'a>) -> Option<&'a [u8]>
+pub(crate) fn portion_of<'a>(frame: &Frame<'a>) -> Option<&'a [u8]>
     ensures { option_copied result ≡ dialogue_of (message frame.now) }
 {
     match frame {

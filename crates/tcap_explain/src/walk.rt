@@ -1,15 +1,17 @@
 //! Contents held against the tables, element by element.
 
-ghost use Rattle.std.specs.Prelude.{◌≡◌, ◌+◌, ◌^◌, ◌<◌, length, option_map, IfSome, IfErr, IfOk};
+ghost use Rattle.std.specs.Prelude.{◌≡◌, ◌+◌, ◌^◌, ◌<◌, length, option_map, true, IfSome, IfErr, IfOk, None};
+ghost use Rattle.ber_core.specs.Element.{IsElement, depth_limit};
 ghost use Rattle.ber_core.specs.Results.{Gives};
+ghost use Rattle.ber_core.specs.Views.{parts};
 ghost use Rattle.tcap_explain.specs.Walk.{IsWithin, Walk, further, first_of, inside_by, ended, step, walk};
 
 use crate::contents::{Contents, is_met};
 use crate::encoding::told_place;
-use crate::line::{Explained, Line, Rule};
+use crate::line::{Explained, Line, ListLine, Rule};
 use crate::table::{Inside, is_over, may_end, next};
 use crate::way::head_len;
-use ber_core::read_element;
+use ber_core::{Element, read_element};
 
 /// What is not met, so many octets further on.
 pub(crate) fn further_on(octets: usize, found: Explained) -> Explained
@@ -39,14 +41,33 @@ fn octets_fault(head: usize, contents: Contents, content: &[u8]) -> Option<Expla
     })
 }
 
-/// What is not met in elements, behind a head of so many octets.
-#[cycle(walk)]
-fn elements_fault(head: usize, line: Line, content: &[u8]) -> Option<Explained>
-    requires { head + length content.now < 2 ^ 64 }
-    ensures value { result ≡ option_map (further head) (walk line content.now) }
-    ensures within { IfSome result (λ x. IsWithin (head + length content.now) x) }
+/// Whether the content of an element is known to be elements, and that is all that is asked of it: one of indefinite form
+/// is read element by element to its end.
+fn is_listed(line: Line, element: &Element<'_>) -> bool
+    requires { IsElement depth_limit (parts element.now) }
+    ensures { result ≡ true → walk line element.now.content.now ≡ None }
 {
-    match walk(line, content) {
+    match line {
+        Line::List(ListLine::Elements) => {
+            element.content.len() < element.whole.len() - head_len(element.whole)
+        }
+        _ => false,
+    }
+}
+
+/// What is not met in the elements that an element holds, behind a head of so many octets.
+#[cycle(walk)]
+fn elements_fault(head: usize, line: Line, element: &Element<'_>) -> Option<Explained>
+    requires size { head + length element.now.content.now < 2 ^ 64 }
+    requires element { IsElement depth_limit (parts element.now) }
+    ensures value { result ≡ option_map (further head) (walk line element.now.content.now) }
+    ensures within { IfSome result (λ x. IsWithin (head + length element.now.content.now) x) }
+{
+    // Elements of the indefinite form may go on over all that follows, so they aren't gone through once more.
+    if is_listed(line, element) {
+        return None;
+    }
+    match walk(line, element.content) {
         Some(found) => Some(further_on(head, found)),
         None => None,
     }
@@ -54,28 +75,31 @@ fn elements_fault(head: usize, line: Line, content: &[u8]) -> Option<Explained>
 
 /// What is not met in elements that are held against two lines, behind a head of so many octets.
 #[cycle(walk)]
-fn listed_fault(head: usize, first: Line, second: Line, content: &[u8]) -> Option<Explained>
-    requires { head + length content.now < 2 ^ 64 }
-    ensures value { result ≡ option_map (further head) (first_of (walk first content.now) (walk second content.now)) }
-    ensures within { IfSome result (λ x. IsWithin (head + length content.now) x) }
+fn listed_fault(head: usize, first: Line, second: Line, element: &Element<'_>) -> Option<Explained>
+    requires size { head + length element.now.content.now < 2 ^ 64 }
+    requires element { IsElement depth_limit (parts element.now) }
+    ensures value { result ≡ option_map (further head)
+        (first_of (walk first element.now.content.now) (walk second element.now.content.now)) }
+    ensures within { IfSome result (λ x. IsWithin (head + length element.now.content.now) x) }
 {
-    match elements_fault(head, first, content) {
+    match elements_fault(head, first, element) {
         Some(found) => Some(found),
-        None => elements_fault(head, second, content),
+        None => elements_fault(head, second, element),
     }
 }
 
 /// What is not met in the content of an element, behind a head of so many octets.
 #[cycle(walk)]
-fn inside_fault(head: usize, inside: Inside, content: &[u8]) -> Option<Explained>
-    requires { head + length content.now < 2 ^ 64 }
-    ensures value { result ≡ inside_by walk head inside content.now }
-    ensures within { IfSome result (λ x. IsWithin (head + length content.now) x) }
+fn inside_fault(head: usize, inside: Inside, element: &Element<'_>) -> Option<Explained>
+    requires size { head + length element.now.content.now < 2 ^ 64 }
+    requires element { IsElement depth_limit (parts element.now) }
+    ensures value { result ≡ inside_by walk head inside element.now.content.now }
+    ensures within { IfSome result (λ x. IsWithin (head + length element.now.content.now) x) }
 {
     match inside {
-        Inside::Octets(contents) => octets_fault(head, contents, content),
-        Inside::Elements(line) => elements_fault(head, line, content),
-        Inside::Listed(first, second) => listed_fault(head, first, second, content),
+        Inside::Octets(contents) => octets_fault(head, contents, element.content),
+        Inside::Elements(line) => elements_fault(head, line, element),
+        Inside::Listed(first, second) => listed_fault(head, first, second, element),
     }
 }
 
@@ -111,7 +135,7 @@ fn take_step(line: Line, bytes: &[u8]) -> Result<(Line, &[u8]), Explained>
             rule: Rule::Other(line),
         });
     };
-    match inside_fault(head_len(bytes), inside, element.content) {
+    match inside_fault(head_len(bytes), inside, &element) {
         Some(found) => Err(found),
         None => Ok((then, rest)),
     }

@@ -1,7 +1,9 @@
 //! Where the portions of a message begin in its octets.
 
-ghost use Rattle.std.specs.Prelude.{◌≡◌, ◌+◌, ◌≤◌, true, [], ◌∷◌, length};
+ghost use Rattle.std.specs.Prelude.{◌≡◌, ◌+◌, ◌≤◌, true, [], ◌∷◌, is_ok, length};
+ghost use Rattle.std.specs.List.{list_all};
 ghost use Rattle.ber_core.specs.Element.{IsElement, depth_limit};
+ghost use Rattle.ber_core.specs.ListReading.{items_of};
 ghost use Rattle.ber_core.specs.Place.{head_length};
 ghost use Rattle.ber_core.specs.SequenceReading.{is_tag};
 ghost use Rattle.ber_core.specs.Views.{parts};
@@ -60,13 +62,35 @@ pub(crate) fn way(message: u8, portion: u8, bytes: &[u8]) -> usize
     front + before
 }
 
-/// `way` in an element that was read and has the tag of the message: it isn't read again.
+/// How many octets stand before the content of the first element with this tag, in a list of elements. Where that content
+/// ends isn't looked for, as that takes as long as there are elements in it.
+fn place_of(tag: u8, bytes: &[u8]) -> usize
+    requires { list_all is_ok (items_of bytes.now) ≡ true }
+    ensures value { result ≡ (inside tag bytes.now).0 }
+    ensures within { result ≤ length bytes.now }
+{
+    let mut rest = bytes;
+    while let Ok(head) = read_head(rest) {
+        if is_tag(tag, head.tag) {
+            return bytes.len() - head.rest.len();
+        }
+        let Ok((_, after)) = read_element(rest) else {
+            return bytes.len() - rest.len();
+        };
+        rest = after;
+    }
+    bytes.len() - rest.len()
+}
+
+/// `way` in an element that was read, has the tag of the message and holds a list of elements: neither it nor the
+/// portion is read again.
 pub(crate) fn way_within(message: u8, portion: u8, element: &Element<'_>) -> usize
     requires element { IsElement depth_limit (parts element.now) }
     requires tag { is_tag message element.now.tag.now ≡ true }
+    requires listed { list_all is_ok (items_of element.now.content.now) ≡ true }
     ensures value { result ≡ way_to (message ∷ portion ∷ []) element.now.whole.now }
     ensures within { result ≤ length element.now.whole.now }
 {
-    let (before, _) = find(portion, element.content);
+    let before = place_of(portion, element.content);
     head_len(element.whole) + before
 }

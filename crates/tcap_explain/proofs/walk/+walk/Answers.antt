@@ -7,13 +7,13 @@ use Rattle.tcap_explain.proofs.walk.+walk.Goals as goal
 
 pub inside_fault-returns-in-Octets-clause-value : goal.inside_fault-returns-in-Octets-clause-value
 inside_fault-returns-in-Octets-clause-value t c =
-    c.octets_fault.ensures.value walk ∙ ap (λ (i : Inside). inside_by walk c.args.head i c.args.content.now) (sym c.in-Octets.is)
+    c.octets_fault.ensures.value walk ∙ ap (λ (i : Inside). inside_by walk c.args.head i c.args.element.now.content.now) (sym c.in-Octets.is)
 
 pub take_step-inside_fault-requires : goal.take_step-inside_fault-requires
 take_step-inside_fault-requires t c =
     let w = content_within c.args.bytes.now c.in-Ok.read.1.now (parts c.in-Ok.read.0) c.in-Ok.ensures.exact in
     let small : length c.args.bytes.now < 18446744073709551616 = search rules in
-    (omega (arith, w.1), omega (arith, w.0, small, c.head_len.ensures.value))
+    (omega (arith, w.1), (omega (arith, w.0, small, c.head_len.ensures.value), c.in-Ok.ensures.found.0))
 
 pub take_step-returns-in-Some-inside_fault-clause-within : goal.take_step-returns-in-Some-inside_fault-clause-within
 take_step-returns-in-Some-inside_fault-clause-within t c =

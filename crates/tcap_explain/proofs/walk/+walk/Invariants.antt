@@ -9,13 +9,13 @@ abbrev pub decreases-take_step : goal.decreases-take_step
 decreases-take_step l = 6 * length l.bytes.now + 4
 
 abbrev pub decreases-inside_fault : goal.decreases-inside_fault
-decreases-inside_fault l = 6 * length l.content.now + 8
+decreases-inside_fault l = 6 * length l.element.now.content.now + 8
 
 abbrev pub decreases-listed_fault : goal.decreases-listed_fault
-decreases-listed_fault l = 6 * length l.content.now + 7
+decreases-listed_fault l = 6 * length l.element.now.content.now + 7
 
 abbrev pub decreases-elements_fault : goal.decreases-elements_fault
-decreases-elements_fault l = 6 * length l.content.now + 6
+decreases-elements_fault l = 6 * length l.element.now.content.now + 6
 
 -- what is left gives what all bytes give
 abbrev pub invariant-walk-loop-rest : goal.invariant-walk-loop-rest
