@@ -1,6 +1,7 @@
 mod ElementVerdicts
 mod EntryLists
 mod Going
+mod ItemLists
 mod JsonLists
 mod LineCuts
 mod LineGoing

@@ -1,5 +1,5 @@
 -- What a message names: its application context, and its components, each with the code of its operation or its error.
-use Rattle.std.specs.Prelude.{ℕ, ℤ, List, [], ◌∷◌, Option, Some, None, Result, Ok, Err}
+use Rattle.std.specs.Prelude.{ℕ, ℤ, Bool, true, false, List, [], ◌∷◌, Option, Some, None, Result, Ok, Err}
 use Rattle.std.specs.List.{flat_map}
 use Rattle.tcap_component.specs.Component.{BodyParts, CodeParts, ComponentParts}
 use Rattle.tcap_component.specs.Component.ComponentParts.{invoke, result_last, error_back, reject_back, result_more}
@@ -14,6 +14,7 @@ use Rattle.tcap_pdu.specs.FrameSpelling.{Message}
 use Rattle.tcap_pdu.specs.declared.fault.DialogueFault.{DialogueFault}
 use Rattle.tcap_words.specs.Verdict.{message_of}
 use Rattle.tcap_words.specs.declared.verdict.Verdict.{Verdict}
+use Rattle.tcap_words.specs.declared.verdict.Verdict.TheVariants.{TooLong, UnknownType, BadlyFormatted, Incorrect, Dialogue, Component, Good}
 use Rattle.tcap_judging.specs.declared.message_items.ItemKind.{ItemKind}
 use Rattle.tcap_judging.specs.declared.message_items.ItemKind.TheVariants as kinds
 
@@ -77,6 +78,16 @@ items_by dialogue content = record { context = context_in dialogue; components =
 abbrev pub items_of : Result Message Verdict → Items
 items_of (Ok m) = items_by (dialogue_of m) (components_in m)
 items_of (Err verdict) = record { context = None; components = [] }
+
+-- Whether octets on which this is the verdict are a message: others name nothing (own).
+abbrev pub is_message : Verdict → Bool
+is_message TooLong = false
+is_message UnknownType = false
+is_message BadlyFormatted = false
+is_message Incorrect = false
+is_message Dialogue = true
+is_message (Component number) = true
+is_message Good = true
 
 -- What the message that octets spell names, as far as it can be read (own).
 abbrev pub message_items : List ℕ → Items

@@ -17,7 +17,7 @@ ghost use Rattle.tcap_judging.specs.ByElement.{message_in, unread};
 
 use crate::judged::Judged;
 use crate::judging::judged_so;
-use ber_core::{Element, is_element_list, take_content, take_tagged};
+use ber_core::{Element, is_element_list, read_head, take_content, take_tagged};
 use tcap_explain::{Explained, explain_message};
 use tcap_pdu::{AbortPart, Frame, FrameFault, TransId, tag};
 use tcap_words::{Verdict, judge_message};
@@ -172,12 +172,25 @@ fn frame_of<'a>(element: &Element<'a>) -> Option<Frame<'a>>
     }
 }
 
-/// The verdict on an element that has the tag of a message and is none, by its contents.
-fn unread_verdict(content: &[u8]) -> Verdict
-    ensures { result ≡ verdict_of_fault
-        (if list_all is_ok (items_of content.now) then FrameFault.Incorrect else FrameFault.BadlyFormatted) }
+/// Whether an element holds a list of elements. One of the indefinite form does: it was read element by element to its
+/// end, and isn't gone through once more.
+fn holds_list(element: &Element<'_>) -> bool
+    requires { IsElement depth_limit (parts element.now) }
+    ensures { result ≡ list_all is_ok (items_of element.now.content.now) }
 {
-    if is_element_list(content) {
+    match read_head(element.whole) {
+        Ok(head) if element.content.len() < head.rest.len() => true,
+        _ => is_element_list(element.content),
+    }
+}
+
+/// The verdict on an element that has the tag of a message and is none, by its contents.
+fn unread_verdict(element: &Element<'_>) -> Verdict
+    requires { IsElement depth_limit (parts element.now) }
+    ensures { result ≡ verdict_of_fault (if list_all is_ok (items_of element.now.content.now)
+        then FrameFault.Incorrect else FrameFault.BadlyFormatted) }
+{
+    if holds_list(element) {
         Verdict::Incorrect
     } else {
         Verdict::BadlyFormatted
@@ -187,11 +200,12 @@ fn unread_verdict(content: &[u8]) -> Verdict
 /// The verdict on an element that is no message.
 #[tactic(auto, unfolding(tcap_pdu::specs::FrameReading::type_at))]
 fn verdict_on_unread(element: &Element<'_>) -> Verdict
+    requires { IsElement depth_limit (parts element.now) }
     ensures { result ≡ verdict_of_fault (unread (parts element.now)) }
 {
     match element.tag {
         [tag::UNIDIRECTIONAL] | [tag::BEGIN] | [tag::END] | [tag::CONTINUE] | [tag::ABORT] =>
-            unread_verdict(element.content),
+            unread_verdict(element),
         _ => Verdict::UnknownType,
     }
 }

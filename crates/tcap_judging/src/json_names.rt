@@ -1,21 +1,22 @@
 //! What a message names, in the object of a message.
 
-ghost use Rattle.std.specs.Prelude.{◌≡◌, ◌++◌, IfOk, OnOk, codes, map, option_copied, option_map, string_bytes};
+ghost use Rattle.std.specs.Prelude.{◌≡◌, ◌++◌, OnOk, codes, map, option_copied, option_map, string_bytes};
 ghost use Rattle.object_identifiers.specs.Contents.{dotted_at};
-ghost use Rattle.tcap_component.specs.Views.{code_parts, component_parts, item_view};
+ghost use Rattle.tcap_component.specs.Views.{code_parts, component_parts};
 ghost use Rattle.tcap_judging.specs.JsonNames.{json_context_name, json_dotted, json_context, json_id, json_code_opening, json_code, json_item, json_components, json_names};
-ghost use Rattle.tcap_judging.specs.JsonSteps.{is_behind_then, json_closing, json_opening, json_step};
+ghost use Rattle.tcap_judging.specs.JsonSteps.{json_closing, json_opening, json_step};
 ghost use Rattle.tcap_judging.specs.MessageItems.{item_of, items_in};
 ghost use Rattle.tcap_judging.specs.NameViews.{named_view};
 ghost use Rattle.tcap_judging.specs.Names.{name_for};
 
 use crate::code_text::{add_code, add_octets, code_kind, kind_words};
-use crate::message_items::{ItemKind, code_of, context_in, id_of, kind_of};
+use crate::judged::Judged;
+use crate::message_items::{ItemKind, code_of, context_in, id_of, is_message, kind_of};
 use crate::name_list::{NameKind, Named, name_for};
 use ber_core::OutOfMemory;
 use object_identifiers::dotted;
 use std::alloc::Allocator;
-use tcap_component::{Code, Component, ComponentFault, Components};
+use tcap_component::{Code, Component, take_component};
 use tcap_words::{add_signed, read_message};
 
 /// Adds the name of an application context, if the list has one.
@@ -171,26 +172,18 @@ fn closing(is_behind: bool) -> &'static str
     if is_behind { "]" } else { "" }
 }
 
-/// Adds the object of a component, by whether one stands before it; a faulty one has none. Tells whether one stands
-/// there then.
+/// Adds the object of a component, by whether one stands before it.
 fn add_item<A: Allocator + Copy>(
     text: &mut String<A>,
     names: &[Named<'_>],
     is_behind: bool,
-    item: &Result<Component<'_>, ComponentFault>,
-) -> Result<bool, OutOfMemory>
-    ensures text { OnOk result (string_bytes text.new ≡ string_bytes text.old
-        ++ json_step (map named_view names.now) is_behind (item_view item.now)) }
-    ensures some { IfOk result (λ some. some ≡ is_behind_then is_behind (item_view item.now)) }
+    component: &Component<'_>,
+) -> Result<(), OutOfMemory>
+    ensures { OnOk result (string_bytes text.new ≡ string_bytes text.old
+        ++ json_step (map named_view names.now) is_behind (component_parts component.now)) }
 {
-    match item {
-        Ok(component) => {
-            text.push_str(opening(is_behind))?;
-            add_component(text, names, component)?;
-            Ok(true)
-        }
-        Err(_) => Ok(is_behind),
-    }
+    text.push_str(opening(is_behind))?;
+    add_component(text, names, component)
 }
 
 /// Adds the components of a component portion, up to the first faulty one, if it has any.
@@ -203,14 +196,17 @@ fn add_components<A: Allocator + Copy>(
         ++ json_components (map named_view names.now) (items_in content.now)) }
 {
     let mut is_behind = false;
-    for item in Components::new(content) {
-        is_behind = add_item(text, names, is_behind, &item)?;
+    let mut rest = content;
+    while let Some((component, after)) = take_component(rest) {
+        add_item(text, names, is_behind, &component)?;
+        is_behind = true;
+        rest = after;
     }
     Ok(text.push_str(closing(is_behind))?)
 }
 
 /// Adds what the message that octets spell names.
-pub(crate) fn add_json_names<A: Allocator + Copy>(
+fn add_names<A: Allocator + Copy>(
     text: &mut String<A>,
     names: &[Named<'_>],
     octets: &[u8],
@@ -224,5 +220,21 @@ pub(crate) fn add_json_names<A: Allocator + Copy>(
             add_components(text, names, frame.components())
         }
         Err(_) => Ok(()),
+    }
+}
+
+/// The same by what is known of it.
+pub(crate) fn add_json_names<A: Allocator + Copy>(
+    text: &mut String<A>,
+    names: &[Named<'_>],
+    judged: &Judged<'_>,
+) -> Result<(), OutOfMemory>
+    ensures { OnOk result (string_bytes text.new ≡ string_bytes text.old
+        ++ json_names (map named_view names.now) judged.now.octets.now) }
+{
+    if is_message(judged.verdict) {
+        add_names(text, names, judged.octets)
+    } else {
+        Ok(())
     }
 }

@@ -147,13 +147,13 @@ fn add_fault<A: Allocator + Copy>(
 fn add_named<A: Allocator + Copy>(
     text: &mut String<A>,
     names: Option<&[Named<'_>]>,
-    octets: &[u8],
+    judged: &Judged<'_>,
 ) -> Result<(), OutOfMemory>
     ensures { OnOk result (string_bytes text.new ≡ string_bytes text.old
-        ++ json_named (names_view names.entry) octets.now) }
+        ++ json_named (names_view names.entry) judged.now.octets.now) }
 {
     match names {
-        Some(names) => add_json_names(text, names, octets),
+        Some(names) => add_json_names(text, names, judged),
         None => Ok(()),
     }
 }
@@ -171,7 +171,7 @@ pub(crate) fn add_object<A: Allocator + Copy>(
     add_label(text, called)?;
     add_verdict_member(text, judged.verdict)?;
     add_fault(text, judged.octets, judged.found)?;
-    add_named(text, names, judged.octets)?;
+    add_named(text, names, judged)?;
     Ok(text.push_str("}\n")?)
 }
 

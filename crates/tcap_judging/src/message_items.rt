@@ -2,10 +2,11 @@
 
 ghost use Rattle.std.specs.Prelude.{◌≡◌, option_copied, option_map};
 ghost use Rattle.tcap_component.specs.Views.{body_parts, code_parts, component_parts};
-ghost use Rattle.tcap_judging.specs.MessageItems.{body_code, context_in, item_of};
+ghost use Rattle.tcap_judging.specs.MessageItems.{body_code, context_in, is_message, item_of};
 
 use tcap_component::{Body, Code, Component};
 use tcap_pdu::{DialoguePdu, read_dialogue};
+use tcap_words::Verdict;
 
 /// The kind of a component (Q.773, Component portion).
 #[derive(Clone, Copy)]
@@ -36,6 +37,17 @@ pub(crate) fn context_in<'a>(dialogue: Option<&'a [u8]>) -> Option<&'a [u8]>
             | DialoguePdu::Aare { context, .. },
         ) => Some(context),
         Ok(DialoguePdu::Abrt { .. } | DialoguePdu::Foreign { .. }) | Err(_) => None,
+    }
+}
+
+/// Whether octets on which this is the verdict are a message. Others name nothing, and aren't read again for that.
+pub(crate) fn is_message(verdict: Verdict) -> bool
+    ensures { result ≡ is_message verdict }
+{
+    match verdict {
+        Verdict::TooLong | Verdict::UnknownType | Verdict::BadlyFormatted | Verdict::Incorrect =>
+            false,
+        Verdict::Dialogue | Verdict::Component(_) | Verdict::Good => true,
     }
 }
 

@@ -2,19 +2,20 @@
 
 ghost use Rattle.std.specs.Prelude.{◌≡◌, ◌++◌, IfOk, OnOk, codes, map, option_copied, option_map, string_bytes};
 ghost use Rattle.object_identifiers.specs.Contents.{dotted_at};
-ghost use Rattle.tcap_component.specs.Views.{code_parts, component_parts, item_view};
-ghost use Rattle.tcap_judging.specs.MessageItems.{context_in, item_of, items_at, items_in};
+ghost use Rattle.tcap_component.specs.Views.{code_parts, component_parts};
+ghost use Rattle.tcap_judging.specs.MessageItems.{context_in, item_of, items_in};
 ghost use Rattle.tcap_judging.specs.MessageNames.{context_words, dotted_words, name_behind, code_behind, item_words, components_words, names_words};
 ghost use Rattle.tcap_judging.specs.NameViews.{named_view};
 ghost use Rattle.tcap_judging.specs.Names.{name_for};
 
 use crate::code_text::{add_code, add_octets, code_kind, kind_words};
-use crate::message_items::{ItemKind, code_of, context_in, id_of, kind_of};
+use crate::judged::Judged;
+use crate::message_items::{ItemKind, code_of, context_in, id_of, is_message, kind_of};
 use crate::name_list::{NameKind, Named, name_for};
 use ber_core::OutOfMemory;
 use object_identifiers::dotted;
 use std::alloc::Allocator;
-use tcap_component::{Code, Component, ComponentFault, Components};
+use tcap_component::{Code, Component, take_component};
 use tcap_words::{add_identifier, read_message};
 
 /// Adds the dotted form of an application context, and its name where the list has one.
@@ -105,21 +106,6 @@ fn add_component<A: Allocator + Copy>(
     add_code_behind(text, names, kind, &code_of(component))
 }
 
-/// Adds the words for a component; a faulty one has none.
-fn add_item<A: Allocator + Copy>(
-    text: &mut String<A>,
-    names: &[Named<'_>],
-    item: &Result<Component<'_>, ComponentFault>,
-) -> Result<(), OutOfMemory>
-    ensures { OnOk result (string_bytes text.new ≡ string_bytes text.old
-        ++ components_words (map named_view names.now) (items_at (item_view item.now))) }
-{
-    match item {
-        Ok(component) => add_component(text, names, component),
-        Err(_) => Ok(()),
-    }
-}
-
 /// Adds the words for the components of a component portion, up to the first faulty one.
 fn add_components<A: Allocator + Copy>(
     text: &mut String<A>,
@@ -129,14 +115,16 @@ fn add_components<A: Allocator + Copy>(
     ensures { OnOk result (string_bytes text.new ≡ string_bytes text.old
         ++ components_words (map named_view names.now) (items_in content.now)) }
 {
-    for item in Components::new(content) {
-        add_item(text, names, &item)?;
+    let mut rest = content;
+    while let Some((component, after)) = take_component(rest) {
+        add_component(text, names, &component)?;
+        rest = after;
     }
     Ok(())
 }
 
 /// Adds what the message that octets spell names.
-pub(crate) fn add_names<A: Allocator + Copy>(
+fn add_names<A: Allocator + Copy>(
     text: &mut String<A>,
     names: &[Named<'_>],
     octets: &[u8],
@@ -150,6 +138,22 @@ pub(crate) fn add_names<A: Allocator + Copy>(
             add_components(text, names, frame.components())
         }
         Err(_) => Ok(()),
+    }
+}
+
+/// The same by what is known of it.
+pub(crate) fn add_known_names<A: Allocator + Copy>(
+    text: &mut String<A>,
+    names: &[Named<'_>],
+    judged: &Judged<'_>,
+) -> Result<(), OutOfMemory>
+    ensures { OnOk result (string_bytes text.new ≡ string_bytes text.old
+        ++ names_words (map named_view names.now) judged.now.octets.now) }
+{
+    if is_message(judged.verdict) {
+        add_names(text, names, judged.octets)
+    } else {
+        Ok(())
     }
 }
 

@@ -14,7 +14,7 @@ use crate::json_text::add_object;
 use crate::judged::Judged;
 use crate::label::{Label, add_label};
 use crate::marked_text::add_mark;
-use crate::message_names::add_names;
+use crate::message_names::add_known_names;
 use crate::name_list::Named;
 use ber_core::OutOfMemory;
 use std::alloc::Allocator;
@@ -82,13 +82,13 @@ fn add_words<A: Allocator + Copy>(
 fn add_named<A: Allocator + Copy>(
     text: &mut String<A>,
     names: Option<&[Named<'_>]>,
-    octets: &[u8],
+    judged: &Judged<'_>,
 ) -> Result<(), OutOfMemory>
     ensures { OnOk result (string_bytes text.new ≡ string_bytes text.old
-        ++ named_words (names_view names.entry) octets.now) }
+        ++ named_words (names_view names.entry) judged.now.octets.now) }
 {
     match names {
-        Some(names) => add_names(text, names, octets),
+        Some(names) => add_known_names(text, names, judged),
         None => Ok(()),
     }
 }
@@ -106,7 +106,7 @@ fn add_plain<A: Allocator + Copy>(
     add_label(text, called)?;
     text.push_str(" ")?;
     add_words(text, judged)?;
-    add_named(text, names, judged.octets)?;
+    add_named(text, names, judged)?;
     Ok(text.push_str("\n")?)
 }
 
