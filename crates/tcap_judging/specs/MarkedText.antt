@@ -1,7 +1,10 @@
--- The octets of a message about the place of its fault, with a mark below.
-use Rattle.std.specs.Prelude.{ℕ, ◌+◌, ◌-◌, List, [], ◌∷◌, ◌++◌, take, drop, codes, Option, Some, None}
+-- The octets of a message about the place of its fault, with marks below those that are faulty.
+use Rattle.std.specs.Prelude.{ℕ, ◌+◌, ◌-◌, List, [], ◌∷◌, ◌++◌, length, take, drop, max, codes, Option, Some, None, Result, Ok, Err, nat_lt, if◌then◌else◌}
 use Rattle.std.specs.List.{flat_map}
 use Rattle.hex.specs.Hex.{encode_lower}
+use Rattle.ber_core.specs.Element.{Parts, depth_limit}
+use Rattle.ber_core.specs.ElementReading.{element_at}
+use Rattle.ber_core.specs.declared.fault.BerFault.{BerFault}
 use Rattle.tcap_explain.specs.declared.line.Explained.{Explained}
 
 -- How many octets are shown before the place of a fault, and behind its octet, at most (own).
@@ -16,6 +19,20 @@ shown_before octets place = drop (place - shown_about) (take place octets)
 abbrev pub shown_from : List ℕ → ℕ → List ℕ
 shown_from octets place = take (1 + shown_about) (drop place octets)
 
+-- How many octets are faulty where so many stand in their element before them: the rest of the element, where it can
+-- be read; else, and where they stand behind it, one (own).
+abbrev pub faulty_by : Result (Parts × List ℕ) BerFault → ℕ → ℕ
+faulty_by (Ok r) before = max 1 (length r.0.whole - before)
+faulty_by (Err fault) before = 1
+
+-- How many octets are faulty, from the place of the fault on: the rest of its element (own).
+abbrev pub faulty_count : List ℕ → Explained → ℕ
+faulty_count octets found = faulty_by (element_at depth_limit (drop found.element octets)) (found.place - found.element)
+
+-- The faulty octets, of those that are shown (own).
+abbrev pub shown_faulty : List ℕ → Explained → List ℕ
+shown_faulty octets found = take (faulty_count octets found) (shown_from octets found.place)
+
 -- An octet in hexadecimal, behind a space (own).
 abbrev pub spaced : ℕ → List ℕ
 spaced octet = codes " " ++ encode_lower (octet ∷ [])
@@ -24,13 +41,40 @@ spaced octet = codes " " ++ encode_lower (octet ∷ [])
 abbrev pub blanks : ℕ → List ℕ
 blanks octet = codes "   "
 
--- The octets that are shown, and below the one at the place a mark (own).
-abbrev pub marked_lines : List ℕ → ℕ → List ℕ
-marked_lines octets place =
-    codes "   " ++ (flat_map spaced (shown_before octets place) ++ (flat_map spaced (shown_from octets place)
-    ++ (codes "\n   " ++ (flat_map blanks (shown_before octets place) ++ codes " ^^\n"))))
+-- A mark below an octet (own).
+abbrev pub mark : ℕ → List ℕ
+mark octet = codes " ^^"
+
+-- Dots before the octets that are shown, where others stand before them (own).
+abbrev pub dots_before : ℕ → List ℕ
+dots_before place = if nat_lt shown_about place then codes " .." else []
+
+-- As many spaces as these dots take (own).
+abbrev pub blanks_before : ℕ → List ℕ
+blanks_before place = if nat_lt shown_about place then codes "   " else []
+
+-- Dots behind the octets that are shown, where others stand behind them (own).
+abbrev pub dots_behind : List ℕ → ℕ → List ℕ
+dots_behind octets place = if nat_lt (1 + shown_about) (length (drop place octets)) then codes " .." else []
+
+-- Marks below the faulty octets; one behind all octets where the place is the end (own).
+abbrev pub marks : List ℕ → List ℕ
+marks [] = codes " ^^"
+marks (octet ∷ octets) = flat_map mark (octet ∷ octets)
+
+-- The octets that are shown (own).
+abbrev pub shown_line : List ℕ → ℕ → List ℕ
+shown_line octets place =
+    codes "   " ++ (dots_before place ++ (flat_map spaced (shown_before octets place)
+    ++ (flat_map spaced (shown_from octets place) ++ (dots_behind octets place ++ codes "\n"))))
+
+-- The marks below them (own).
+abbrev pub mark_line : List ℕ → Explained → List ℕ
+mark_line octets found =
+    codes "   " ++ (blanks_before found.place ++ (flat_map blanks (shown_before octets found.place)
+    ++ (marks (shown_faulty octets found) ++ codes "\n")))
 
 -- What is printed below the line of a message: nothing where it has no fault (own).
 abbrev pub marked_text : List ℕ → Option Explained → List ℕ
 marked_text octets None = []
-marked_text octets (Some found) = marked_lines octets found.place
+marked_text octets (Some found) = shown_line octets found.place ++ mark_line octets found

@@ -194,7 +194,7 @@ const FORMS: &[(&str, &str, &str)] = &[
     (
         "--explain",
         "m 620748050000000001\n",
-        "m fault incorrect place 4 element 2: expected a transaction identifier of 1 to 4 octets, found 5 octets from 0x00\n    62 07 48 05 00 00 00 00 01\n                ^^\n",
+        "m fault incorrect place 4 element 2: expected a transaction identifier of 1 to 4 octets, found 5 octets from 0x00\n    62 07 48 05 00 00 00 00 01\n                ^^ ^^ ^^ ^^ ^^\n",
     ),
     // The place is the end.
     (
@@ -202,11 +202,11 @@ const FORMS: &[(&str, &str, &str)] = &[
         "m 620348\n",
         "m fault badly formatted place 3 element 0: expected 2 more octets, found the end\n    62 03 48\n             ^^\n",
     ),
-    // Sixteen octets before the place, and sixteen behind its octet.
+    // Sixteen octets before the place, and sixteen behind its octet; an element that can't be read has one mark.
     (
         "--explain",
         "m 04100102030405060708090a0b0c0d0e0f10aabbccddeeff000102030405060708090a0b0c0d0e0f\n",
-        "m fault badly formatted place 18 element 18: expected the end, found 0xaa\n    01 02 03 04 05 06 07 08 09 0a 0b 0c 0d 0e 0f 10 aa bb cc dd ee ff 00 01 02 03 04 05 06 07 08 09 0a\n                                                    ^^\n",
+        "m fault badly formatted place 18 element 18: expected the end, found 0xaa\n    .. 01 02 03 04 05 06 07 08 09 0a 0b 0c 0d 0e 0f 10 aa bb cc dd ee ff 00 01 02 03 04 05 06 07 08 09 0a ..\n                                                       ^^\n",
     ),
 ];
 
