@@ -5,8 +5,8 @@ ghost use Rattle.tcap_invocation.specs.Stage.{moment_limit};
 ghost use Rattle.tcap_play.specs.EnginesView.{PlaysLine, StandAt};
 ghost use Rattle.tcap_play.specs.Play.{not_begun};
 
-use crate::addresses::Addresses;
 use crate::play::{act_by, begun};
+use crate::side::Addresses;
 use crate::station::Station;
 use ber_core::OutOfMemory;
 use std::alloc::{Allocator, Global};

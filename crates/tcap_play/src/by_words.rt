@@ -8,8 +8,6 @@ ghost use Rattle.tcap_play.specs.LineViews.{line_view, texts_of};
 ghost use Rattle.tcap_play.specs.PlayViews.{ActsOn};
 ghost use Rattle.tcap_play.specs.ScriptLine.{line_of};
 
-use crate::addresses::Addresses;
-use crate::play::act;
 use crate::script::line::{
     Line, line_of_beginto, line_of_five, line_of_four, line_of_nine, line_of_six, line_of_three,
     line_of_two,
@@ -17,7 +15,8 @@ use crate::script::line::{
 use crate::script::requests::invoke_request;
 use crate::script::values::is;
 use crate::script::word::{Word, address_named};
-use crate::station::Station;
+use crate::side::Addresses;
+use crate::station::{Station, act};
 use ber_core::OutOfMemory;
 use std::alloc::Allocator;
 

@@ -5,8 +5,6 @@
 //! on `hex` and `itoa`. Begin at `play_text`.
 #![tactic(auto)]
 
-mod addresses;
-mod answer_text;
 mod by_line;
 mod by_words;
 pub mod examples;
@@ -17,7 +15,6 @@ mod opening;
 pub mod output_text;
 pub mod pieces;
 mod play;
-mod run;
 pub mod script;
 mod side;
 mod station;
@@ -26,6 +23,5 @@ pub use by_line::Engines;
 pub use numbers::{number, signed};
 pub use opening::{Opening, opening_of};
 pub use pieces::{first_piece, is_skipped};
-pub use play::play_text;
-pub use run::run_play;
+pub use play::{play_text, run_play};
 pub use tcap_text::{PlayFault, run_stream};

@@ -1,152 +1,25 @@
-//! The play of a script.
+//! The play of a script, as a text, and over a reader and a writer.
 
-ghost use Rattle.std.specs.Prelude.{◌≡◌, ◌≤◌, ◌+◌, ℕ, List, [], IfOk, OnOk, string_bytes};
-ghost use Rattle.tcap_engine.specs.EventViews.{event_view};
+ghost use Rattle.std.specs.Prelude.{◌≡◌, ◌≤◌, ◌+◌, [], IfOk, string_bytes, MatchResult};
 ghost use Rattle.tcap_invocation.specs.Stage.{moment_limit};
 ghost use Rattle.tcap_model.specs.Table.World.{StandsAt};
-ghost use Rattle.tcap_play.specs.LineViews.{line_view};
 ghost use Rattle.tcap_play.specs.Pieces.{left};
-ghost use Rattle.tcap_play.specs.Play.{Fate as Became, handed, history_of, message_in, not_begun, play_is_good, play_text_of, step, step_by};
-ghost use Rattle.tcap_play.specs.PlayViews.{ActsBy, GoesOnAt, Loses, PrintsAll, ReceivesFrom, StepsBy, advanced_to, lost_by, messages_view, received_by};
-ghost use Rattle.tcap_play.specs.SideView.{side_view};
+ghost use Rattle.tcap_play.specs.Play.{history_of, not_begun, play_is_good, play_text_of, step_by};
+ghost use Rattle.tcap_play.specs.PlayViews.{ActsBy, GoesOnAt, PrintsAll};
 ghost use Rattle.tcap_play.specs.Sides.{Engine as Which};
+ghost use Rattle.tcap_play.specs.Run.{IsPlayed, IsFaulty};
 
-use crate::addresses::Addresses;
 use crate::by_words::act_on;
-use crate::message::{message_if, set_fate};
 use crate::opening::{Opening, opening_of};
 use crate::pieces::{first_piece, is_skipped};
-use crate::script::line::Line;
-use crate::script::values::Name;
 use crate::script::words::cut_words;
-use crate::side::Side;
-use crate::station::{Station, hand};
+use crate::side::Addresses;
+use crate::station::Station;
 use ber_core::OutOfMemory;
 use std::alloc::Allocator;
-use tcap_engine::{Engine, Event, Limits};
-use tcap_text::{Fate, Shown};
-
-/// Hands an event to the engine of a side.
-fn call<A: Allocator + Copy>(
-    side: Side,
-    event: &Event<'_>,
-    a: &mut Station<A>,
-    b: &mut Station<A>,
-    text: &mut String<A>,
-) -> Result<(), OutOfMemory>
-    ensures { OnOk result (StepsBy (handed (side_view side) (event_view event.now)) a.old b.old a.new b.new
-        (string_bytes text.old) (string_bytes text.new)) }
-{
-    match side {
-        Side::A => hand(side, a, event, text),
-        Side::B => hand(side, b, event, text),
-    }
-}
-
-/// Hands the message with this number, if it is in this state and goes to this other side, to the engine
-/// there, and tells whether it did.
-fn receive_from<A: Allocator + Copy>(
-    addresses: &Addresses,
-    from: &mut Station<A>,
-    number: u64,
-    fate: Fate,
-    side: Side,
-    to: &mut Station<A>,
-    text: &mut String<A>,
-) -> Result<bool, OutOfMemory>
-    ensures done { IfOk result (λ done. ReceivesFrom side fate number done from.old from.new to.old to.new
-        (string_bytes text.old) (string_bytes text.new)) }
-    ensures engine { from.new.engine ≡ from.old.engine }
-{
-    let Some(message) = message_if(&from.sent, number, fate) else {
-        return Ok(false);
-    };
-    if message.to.octets() != addresses.of(side).octets() {
-        return Ok(false);
-    }
-    let event = Event::Bytes(addresses.beyond(side), &message.octets);
-    hand(side, to, &event, text)?;
-    set_fate(&mut from.sent, number, Fate::Delivered);
-    Ok(true)
-}
-
-/// Hands the message of this name, if it is in this state and goes to the other side, to the engine there,
-/// and tells whether it did.
-fn receive<A: Allocator + Copy>(
-    addresses: &Addresses,
-    name: Name,
-    fate: Fate,
-    a: &mut Station<A>,
-    b: &mut Station<A>,
-    text: &mut String<A>,
-) -> Result<bool, OutOfMemory>
-    ensures { IfOk result (λ done. ActsBy (received_by name fate) done a.old b.old a.new b.new
-        (string_bytes text.old) (string_bytes text.new)) }
-{
-    let number = name.number;
-    match name.side {
-        Side::A => receive_from(addresses, a, number, fate, Side::B, b, text),
-        Side::B => receive_from(addresses, b, number, fate, Side::A, a, text),
-    }
-}
-
-/// Loses the message with this number, if it waits, and tells whether it did.
-fn lose_from<A: Allocator + Copy>(from: &mut Station<A>, number: u64) -> bool
-    ensures lost { Loses (message_in Became.waiting number
-        (messages_view from.old.sent.items)) number result from.old.sent.items from.new.sent.items }
-    ensures engine { from.new.engine ≡ from.old.engine }
-{
-    if message_if(&from.sent, number, Fate::Waiting).is_none() {
-        return false;
-    }
-    set_fate(&mut from.sent, number, Fate::Lost);
-    true
-}
-
-/// Loses the message of this name, if it waits, and tells whether it did.
-fn lose<A: Allocator + Copy>(name: Name, a: &mut Station<A>, b: &mut Station<A>) -> bool
-    ensures { (text : List ℕ) → ActsBy (lost_by name) result a.old b.old a.new b.new text text }
-{
-    match name.side {
-        Side::A => lose_from(a, name.number),
-        Side::B => lose_from(b, name.number),
-    }
-}
-
-/// Hands the moment to both engines, to A first.
-fn advance<A: Allocator + Copy>(
-    now: u64,
-    a: &mut Station<A>,
-    b: &mut Station<A>,
-    text: &mut String<A>,
-) -> Result<(), OutOfMemory>
-    ensures { OnOk result (StepsBy (advanced_to now) a.old b.old a.new b.new
-        (string_bytes text.old) (string_bytes text.new)) }
-{
-    call(Side::A, &Event::Moment(now), a, b, text)?;
-    call(Side::B, &Event::Moment(now), a, b, text)
-}
-
-/// Does what a line asks for, and tells whether it could be done.
-pub(crate) fn act<A: Allocator + Copy>(
-    addresses: &Addresses,
-    line: Line<'_>,
-    a: &mut Station<A>,
-    b: &mut Station<A>,
-    text: &mut String<A>,
-) -> Result<bool, OutOfMemory>
-    ensures { IfOk result (λ done. ActsBy (λ p. step p (line_view line.entry)) done a.old b.old a.new b.new
-        (string_bytes text.old) (string_bytes text.new)) }
-{
-    match line {
-        Line::Call(side, event) => call(side, &event, a, b, text)?,
-        Line::Deliver(name) => return receive(addresses, name, Fate::Waiting, a, b, text),
-        Line::Again(name) => return receive(addresses, name, Fate::Delivered, a, b, text),
-        Line::Lose(name) => return Ok(lose(name, a, b)),
-        Line::Advance(now) => advance(now, a, b, text)?,
-    }
-    Ok(true)
-}
+use std::io::{Read, Write};
+use tcap_engine::{Engine, Limits};
+use tcap_text::{PlayFault, Shown, read_script, write_text};
 
 /// Does what the line of these octets asks for, and tells whether it could be done.
 pub(crate) fn act_by<'s, A: Allocator + Copy>(
@@ -257,4 +130,35 @@ pub fn play_text<A: Allocator + Copy>(alloc: A, script: &[u8]) -> Result<Shown<A
         text: text.into_bytes(),
         good,
     })
+}
+
+/// Plays the script that the reader gives: reads it all, writes what its play prints, and tells whether
+/// it is good. With another fault than Write nothing was written; with that one a prefix of the text,
+/// never all of it. The read that finds the end counts as one.
+///
+/// ```rust
+/// let mut script: &[u8] = b"# no line";
+/// let mut out = Vec::new(alloc);
+/// assert_eq!(rt; run_play(alloc, &mut script, &mut out), Ok(true));
+/// assert_eq!(rt; out.len(), 0);
+/// ```
+///
+/// # Errors
+///
+/// `Read` where a read failed, or was interrupted; `TooLong` at the read that passes 1,048,576 octets, and
+/// where 1,000,000 reads didn't find the end; `OutOfMemory` where memory was refused; `Write` where a write
+/// failed.
+pub fn run_play<A: Allocator + Copy, R: Read, W: Write>(
+    alloc: A,
+    reader: &mut R,
+    writer: &mut W,
+) -> Result<bool, PlayFault>
+    ensures { MatchResult result
+        (λ good. IsPlayed (R.remaining reader.old) (R.remaining reader.new) (W.contents writer.old) (W.contents writer.new) good)
+        (λ fault. IsFaulty (R.remaining reader.old) (R.remaining reader.new) (W.contents writer.old) (W.contents writer.new) fault) }
+{
+    let script = read_script(alloc, reader)?;
+    let shown = play_text(alloc, script.as_slice())?;
+    write_text(writer, shown.text.as_slice())?;
+    Ok(shown.good)
 }

@@ -7,14 +7,13 @@ ghost use Rattle.tcap_play.specs.LineViews.{line_view, text_of};
 ghost use Rattle.tcap_play.specs.ScriptLine.{called_on, asked_on, received_from, received_on, line_of_two, line_of_three, line_of_four, line_of_five, line_of_six, line_of_nine};
 ghost use Rattle.tcap_play.specs.ScriptWords.{named_address};
 
-use crate::addresses::Addresses;
 use crate::script::requests::{
     abort_request, begin_request, cancel_request, error_request, last_request, more_request,
     portion_request_on, reject_request,
 };
 use crate::script::values::{Name, dialogue, is, message_name, milliseconds, octets, side};
 use crate::script::word::Word;
-use crate::side::Side;
+use crate::side::{Addresses, Side};
 use std::alloc::Allocator;
 use tcap_dialogue::{EndRequest, Ending, Request};
 use tcap_engine::{Address, Event};

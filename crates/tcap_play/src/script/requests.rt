@@ -6,12 +6,12 @@ ghost use Rattle.tcap_play.specs.LineViews.{text_of};
 ghost use Rattle.tcap_play.specs.ScriptWords.{named_address};
 ghost use Rattle.tcap_play.specs.ScriptLine.{begin_request_of, portion_request_of, portion_request_on, abort_request_of, last_request_of, more_request_of, cancel_request_of, error_request_of, reject_request_of, invoke_request_of};
 
-use crate::addresses::Addresses;
 use crate::script::values::{
     body, class, code, identifier, is, milliseconds, octets, optional_identifier, optional_octets,
     problem, reason, side,
 };
 use crate::script::word::Word;
+use crate::side::Addresses;
 use std::alloc::Allocator;
 use tcap_dialogue::{
     AbortRequest, Address, BeginRequest, CancelRequest, ContinueRequest, EndRequest, Ending,

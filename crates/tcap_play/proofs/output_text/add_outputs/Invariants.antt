@@ -2,7 +2,7 @@ use Rattle.std.proofs.Common.{◌≡◌, ◌≤◌, ◌+◌, ◌++◌, drop, str
 use Rattle.tcap_primitives.specs.OutputViews.{all_shown}
 use Rattle.tcap_play.specs.AnswerText.{output_lines}
 use Rattle.tcap_play.specs.SideView.{side_view}
-use Rattle.tcap_play.proofs.answer_text.add_outputs.Given as goal
+use Rattle.tcap_play.proofs.output_text.add_outputs.Given as goal
 
 -- the lines so far and those of the outputs that are left
 abbrev pub invariant-loop-output : goal.invariant-loop-output

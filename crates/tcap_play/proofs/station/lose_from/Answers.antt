@@ -4,7 +4,7 @@ use Rattle.tcap_play.specs.Play as play
 use Rattle.tcap_play.specs.Play.{message_in}
 use Rattle.tcap_play.specs.PlayViews.{message_view, messages_view}
 use Rattle.tcap_play.proofs.MessagePlaces.{lost}
-use Rattle.tcap_play.proofs.play.lose_from.Goals as goal
+use Rattle.tcap_play.proofs.station.lose_from.Goals as goal
 
 pub returns-clause-lost : goal.returns-clause-lost
 returns-clause-lost g c =

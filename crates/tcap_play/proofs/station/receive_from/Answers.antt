@@ -6,7 +6,7 @@ use Rattle.tcap_play.specs.PlayViews.{Hands, fate_view, message_view, messages_v
 use Rattle.tcap_play.specs.SideView.{side_view}
 use Rattle.tcap_play.specs.Sides.{address_of, far}
 use Rattle.tcap_play.proofs.MessagePlaces.{received}
-use Rattle.tcap_play.proofs.play.receive_from.Goals as goal
+use Rattle.tcap_play.proofs.station.receive_from.Goals as goal
 
 pub returns-clause-done : goal.returns-clause-done
 returns-clause-done g c =
