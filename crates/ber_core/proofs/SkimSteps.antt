@@ -1,9 +1,15 @@
--- What a plain head, end or element makes of what reading gives inside an indefinite element.
-use Rattle.std.proofs.Common.{◌≡◌, ◌≢◌, ℕ, ◌+◌, ◌-◌, ◌*◌, ◌<◌, ◌≤◌, not, eqb, bit_and, true, false, List, ◌∷◌, ◌++◌, Some, length, take, drop, Ok, refl, sym, ap, ◌∙◌, inr, arith, append_assoc}
+-- What a head, an end or an element makes of what reading gives inside an indefinite element.
+use Rattle.std.proofs.Common.{◌≡◌, ◌≢◌, ℕ, ◌+◌, ◌-◌, ◌*◌, ◌<◌, ◌≤◌, Bool, not, eqb, bit_and, true, false, List, [], ◌∷◌, ◌++◌, Option, Some, None, length, take, drop, Result, Ok, refl, sym, ap, ◌∙◌, inr, arith, append_assoc}
 use Rattle.std.proofs.lemmas.Bool.{eqb-false}
 use Rattle.std.proofs.lemmas.List.{take-append-drop, length-take}
+use Rattle.ber_core.specs.declared.fault.BerFault.{BerFault}
 use Rattle.ber_core.specs.ElementReading.{skip_at}
-use Rattle.ber_core.specs.Scanning.{outer_at, at_tag, at_body, at_length}
+use Rattle.ber_core.specs.HeadReading.{head_at}
+use Rattle.ber_core.specs.Results.{◌>>=◌}
+use Rattle.ber_core.specs.Tag.{IsTag, is_constructor}
+use Rattle.ber_core.specs.Scanning.{outer_at, at_tag, at_element, at_body, at_length}
+use Rattle.ber_core.proofs.Contents.{after_at-body}
+use Rattle.ber_core.proofs.HeadGrammar.{HeadRead, SpellsLength, head_takes, head_again-definite, head_again-indefinite}
 use Rattle.ber_core.proofs.ScannerSteps.{tag-nested, tag-element, tag-end, element-short_tag}
 use Rattle.ber_core.proofs.ScannerLengths.{length-short_form, length-long_form, long-last, length-indefinite, body-nested, skip-passed, skip-none}
 
@@ -40,3 +46,35 @@ skim-opens n tag len rest lt filled low constructed is =
 
 pub skim-end : (n : ℕ) (rest : List ℕ) → 0 < n → outer_at (n - 1) rest ≡ at_tag n (0 ∷ 0 ∷ rest)
 skim-end n rest h = sym (tag-end n (0 ∷ rest) h)
+
+-- ---- any head
+
+-- a head that was read is read so whatever follows
+longer-by : (tag : List ℕ) (c : Bool) (len : Option ℕ) (octets rest : List ℕ) → IsTag tag → c ≡ is_constructor tag → SpellsLength c len octets → head_at (tag ++ (octets ++ rest)) ≡ Ok (tag, c, len, rest)
+longer-by tag c (Some n) octets rest t is s = rw is (head_again-definite tag octets rest n t s)
+longer-by tag c None octets rest t is s = rw (s.1, is) (head_again-indefinite tag rest t (sym is ∙ s.0))
+
+-- no end begins with a tag
+element-tagged : (n : ℕ) (tag rest : List ℕ) → IsTag tag → at_tag n (tag ++ rest) ≡ at_element n (tag ++ rest)
+element-tagged n [] rest t = absurd t
+element-tagged n (b ∷ further) rest t = tag-element n b (further ++ rest) (inr t.0)
+
+body-headed : (n : ℕ) (bytes : List ℕ) (h : HeadRead) → head_at bytes ≡ Ok h → at_element n bytes ≡ at_body n (h.2, h.3)
+body-headed n bytes h e = ap (λ (r : Result (List ℕ) BerFault). r >>= outer_at n) (after_at-body (32 - n) bytes h e)
+
+skim-headed : (n : ℕ) (bytes more : List ℕ) (h : HeadRead) → head_at bytes ≡ Ok h → at_tag n (bytes ++ more) ≡ at_body n (h.2, h.3 ++ more)
+skim-headed n bytes more h e =
+    let s = head_takes bytes h e in
+    let parts : bytes ++ more ≡ h.0 ++ (s.octets ++ (h.3 ++ more)) = ap (λ (w : List ℕ). w ++ more) s.parts ∙ (append_assoc h.0 (s.octets ++ h.3) more ∙ ap (λ (w : List ℕ). h.0 ++ w) (append_assoc s.octets h.3 more)) in
+    let read : head_at (h.0 ++ (s.octets ++ (h.3 ++ more))) ≡ Ok (h.0, h.1, h.2, h.3 ++ more) = longer-by h.0 h.1 h.2 s.octets (h.3 ++ more) s.is_tag s.constructs s.spells in
+    ap (λ (w : List ℕ). at_tag n w) parts
+    ∙ (element-tagged n h.0 (s.octets ++ (h.3 ++ more)) s.is_tag ∙ body-headed n (h.0 ++ (s.octets ++ (h.3 ++ more))) (h.0, h.1, h.2, h.3 ++ more) read)
+
+pub skim-definite : (n len : ℕ) (bytes : List ℕ) (h : HeadRead) → head_at bytes ≡ Ok h → h.2 ≡ Some len → len ≤ length h.3 → (more : List ℕ) → outer_at n (drop len h.3 ++ more) ≡ at_tag n (bytes ++ more)
+skim-definite n len bytes h e is enough more =
+    sym (skim-headed n bytes more h e ∙ (ap (λ (o : Option ℕ). at_body n (o, h.3 ++ more)) is ∙ body-passed n len h.3 enough more))
+
+pub skim-indefinite : (n : ℕ) (bytes : List ℕ) (h : HeadRead) → head_at bytes ≡ Ok h → h.2 ≡ None → n < 32 → (more : List ℕ) → outer_at (n + 1) (h.3 ++ more) ≡ at_tag n (bytes ++ more)
+skim-indefinite n bytes h e is lt more =
+    sym (tag-nested (n + 1) (h.3 ++ more) (λ e. absurd (omega (arith, e))))
+    ∙ (body-nested n (h.3 ++ more) lt ∙ sym (skim-headed n bytes more h e ∙ ap (λ (o : Option ℕ). at_body n (o, h.3 ++ more)) is))

@@ -1,4 +1,4 @@
-//! Heads, ends and elements that stand whole and plain in the octets: each is passed over at once.
+//! Heads, ends and elements that stand whole in the octets: each is passed over at once.
 
 ghost use Rattle.std.specs.Prelude.{◌≡◌, ◌≢◌, ◌==◌, ◌↔◌, ◌<◌, ◌≤◌, ◌++◌, ◌∷◌, bit_and, true, false, length, List, ℕ, IsTrue, IfSome, IfNone};
 ghost use Rattle.ber_core.specs.Element.{depth_limit};
@@ -7,7 +7,7 @@ ghost use Rattle.ber_core.specs.Scanning.{goes_on, goes_on_or, outer_at, at_tag}
 use super::Scanner;
 use super::due::Due;
 use super::octet::behind_element;
-use crate::head::is_plain;
+use crate::head::{is_plain, read_head};
 use crate::scan::MAX_DEPTH;
 
 /// Whether an indefinite element begins with a tag of this one octet and this length.
@@ -57,7 +57,7 @@ fn skim_one(nested: u8, tag: u8, len: u8, body: &[u8]) -> Option<(u8, &[u8])>
 /// Passes over what is plain: gives the scanner behind it, `None` where the outermost element ends, and
 /// what follows.
 #[inline(always)]
-fn skim(nested: u8, bytes: &[u8]) -> (Option<Scanner>, &[u8])
+fn skim_plain(nested: u8, bytes: &[u8]) -> (Option<Scanner>, &[u8])
     requires { nested ≤ depth_limit }
     ensures value { (more : List ℕ) → goes_on_or result.0 (result.1.now ++ more)
         ≡ at_tag nested (bytes.now ++ more) }
@@ -89,8 +89,98 @@ fn skim(nested: u8, bytes: &[u8]) -> (Option<Scanner>, &[u8])
     (Some(scanner), rest)
 }
 
+/// Passes over any head, and over the content that is there behind a definite one: gives how many are open then, and
+/// what follows.
+#[inline(always)]
+fn skim_head(nested: u8, bytes: &[u8]) -> Option<(u8, &[u8])>
+    requires { nested ≤ depth_limit }
+    ensures value { IfSome result (λ r. (more : List ℕ) → outer_at r.0 (r.1.now ++ more)
+        ≡ at_tag nested (bytes.now ++ more)) }
+    ensures most { IfSome result (λ r. (nested ≤ r.0) × (r.0 ≤ depth_limit)) }
+    ensures shorter { IfSome result (λ r. length r.1.now < length bytes.now) }
+{
+    let Ok(head) = read_head(bytes) else {
+        return None;
+    };
+    let rest = head.rest;
+    match head.length {
+        Some(len) => {
+            if len <= rest.len() {
+                Some((nested, &rest[len..]))
+            } else {
+                None
+            }
+        }
+        None => {
+            if nested < MAX_DEPTH {
+                Some((nested + 1, rest))
+            } else {
+                None
+            }
+        }
+    }
+}
+
+/// Passes over what stands whole in elements of indefinite form, of which so many are open, the first of it with a head
+/// that isn't plain: gives the scanner behind it, `None` where the outermost element ends, and what follows.
+// Called: such heads are rare. Octet by octet they took some four times as long.
+#[inline(never)]
+fn skim_whole(nested: u8, bytes: &[u8]) -> (Option<Scanner>, &[u8])
+    requires open { 0 < nested }
+    requires within { nested ≤ depth_limit }
+    ensures value { (more : List ℕ) → goes_on_or result.0 (result.1.now ++ more)
+        ≡ at_tag nested (bytes.now ++ more) }
+    ensures shorter { length result.1.now ≤ length bytes.now }
+    ensures whole { IfNone result.0 (length result.1.now < length bytes.now) }
+{
+    let mut nested = nested;
+    let mut rest = bytes;
+    while let Some((left, behind)) = skim_head(nested, rest) {
+        let (next, after) = skim_plain(left, behind);
+        match next {
+            Some(
+                Scanner {
+                    due: Due::Tag,
+                    nested: open,
+                },
+            ) if open > 0 => {
+                nested = open;
+                rest = after;
+            }
+            _ => return (next, after),
+        }
+    }
+    let scanner = Scanner {
+        due: Due::Tag,
+        nested,
+    };
+    (Some(scanner), rest)
+}
+
+/// Passes over what stands whole: gives the scanner behind it, `None` where the outermost element ends, and what
+/// follows.
+#[inline(always)]
+fn skim(nested: u8, bytes: &[u8]) -> (Option<Scanner>, &[u8])
+    requires { nested ≤ depth_limit }
+    ensures value { (more : List ℕ) → goes_on_or result.0 (result.1.now ++ more)
+        ≡ at_tag nested (bytes.now ++ more) }
+    ensures shorter { length result.1.now ≤ length bytes.now }
+    ensures whole { IfNone result.0 (length result.1.now < length bytes.now) }
+{
+    let (next, after) = skim_plain(nested, bytes);
+    match next {
+        Some(
+            Scanner {
+                due: Due::Tag,
+                nested: open,
+            },
+        ) if open > 0 => skim_whole(open, after),
+        _ => (next, after),
+    }
+}
+
 impl Scanner {
-    /// Passes over what is plain; `None` where the element ends, and what follows.
+    /// Passes over what stands whole; `None` where the element ends, and what follows.
     #[inline(always)]
     pub fn skim(self, bytes: &[u8]) -> (Option<Scanner>, &[u8])
         ensures value { (more : List ℕ) → goes_on_or result.0 (result.1.now ++ more)

@@ -1,6 +1,6 @@
 use Rattle.std.proofs.Common.{◌≡◌, ◌≤◌, ◌++◌, List, ℕ, length}
 use Rattle.ber_core.specs.Scanning.{at_tag}
-use Rattle.ber_core.proofs.scanner.skim.skim.Given as goal
+use Rattle.ber_core.proofs.scanner.skim.skim_plain.Given as goal
 
 -- reading on from here is reading on from the first octet
 abbrev pub invariant-loop-rest : goal.invariant-loop-rest
