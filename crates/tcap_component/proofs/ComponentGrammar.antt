@@ -77,7 +77,7 @@ verdict_read tag content f c t h =
 has_tag : (e : Parts) (f : Form) → form_at e.tag ≡ Some f → HasComponentTag e
 has_tag e f t = let s = sample f in (s.0, form_takes e.tag f t ∙ ap (λ (n : ℕ). n ∷ []) (sym s.1))
 
-form_from : (e : Parts) → HasComponentTag e → (f : Form) × (form_at e.tag ≡ Some f)
+pub form_from : (e : Parts) → HasComponentTag e → (f : Form) × (form_at e.tag ≡ Some f)
 form_from e h = (form_of_parts h.0, ap form_at h.1 ∙ form_again h.0)
 
 abbrev pub Verdict : Parts → List ℕ → Result ComponentParts ℕ → Type 0

@@ -30,6 +30,12 @@ fn component_of<'a>(octets: &[u8], content: &'a [u8]) -> Option<Component<'a>>
 pub fn take_component<'a>(bytes: &'a [u8]) -> Option<(Component<'a>, &'a [u8])>
     ensures { option_map (λ r. (component_parts r.0, r.1.now)) result ≡ result_ok (component_at bytes.now) }
 {
+    // Before its end is read, which in the indefinite form takes as long as there are elements in it.
+    if let [first, ..] = bytes {
+        if form_of(&[*first]).is_none() {
+            return None;
+        }
+    }
     let Ok((element, rest)) = read_element(bytes) else {
         return None;
     };
