@@ -122,7 +122,8 @@ fn skim_head(nested: u8, bytes: &[u8]) -> Option<(u8, &[u8])>
 }
 
 /// Passes over a head and the content that is there, or over an end: gives how many are open then, and what follows.
-// Heads of two octets and ends are tried by `skim_one`, at a quarter of what `skim_head` takes.
+// Heads of two octets and ends are tried by `skim_one`, at a quarter of what `skim_head` takes; others are not, which
+// changes nothing but what they take.
 #[inline(always)]
 fn skim_next(nested: u8, bytes: &[u8]) -> Option<(u8, &[u8])>
     requires { nested ≤ depth_limit }
@@ -144,8 +145,8 @@ fn skim_next(nested: u8, bytes: &[u8]) -> Option<(u8, &[u8])>
 
 /// Passes over what stands whole, whatever its heads: gives the scanner behind it, `None` where the outermost element
 /// ends, and what follows.
-// Called where a head isn't plain, within the indefinite form: octet by octet such heads took six to eight
-// times the instructions. What is plain behind one takes a third more here than in `skim_plain`.
+// Called within the indefinite form where what follows isn't plain, or isn't whole: octet by octet long heads took six
+// to eight times the instructions. What is plain behind one takes a third more here than in `skim_plain`.
 #[inline(never)]
 fn skim_whole(nested: u8, bytes: &[u8]) -> (Option<Scanner>, &[u8])
     requires { nested ≤ depth_limit }
@@ -181,6 +182,7 @@ fn skim(nested: u8, bytes: &[u8]) -> (Option<Scanner>, &[u8])
     ensures whole { IfNone result.0 (length result.1.now < length bytes.now) }
 {
     let (next, after) = skim_plain(nested, bytes);
+    // Where none is open, a message begins: a call for its one head wouldn't pay in a feed.
     match next {
         Some(
             Scanner {
