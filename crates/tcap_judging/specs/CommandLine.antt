@@ -48,7 +48,7 @@ is_true_text (Some text) = bytes_eq text (codes "true")
 abbrev pub is_set : Text → List Row → Bool
 is_set name rows = is_true_text (first_of name rows)
 
--- How the options that were given ask to print: in JSON, or else with a mark (own).
+-- How the options that were given ask to print: in JSON, or else with marks (own).
 abbrev pub layout_by : List Row → Layout
 layout_by rows =
     if is_set (codes "json") rows then layout.Json

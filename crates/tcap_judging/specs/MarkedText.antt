@@ -6,6 +6,8 @@ use Rattle.ber_core.specs.Element.{Parts, depth_limit}
 use Rattle.ber_core.specs.ElementReading.{element_at}
 use Rattle.ber_core.specs.declared.fault.BerFault.{BerFault}
 use Rattle.tcap_explain.specs.declared.line.Explained.{Explained}
+use Rattle.tcap_explain.specs.declared.line.Rule.{Rule}
+use Rattle.tcap_explain.specs.declared.line.Rule.TheVariants as rule
 
 -- How many octets are shown before the place of a fault, and behind its octet, at most (own).
 abbrev pub shown_about : ℕ
@@ -19,15 +21,27 @@ shown_before octets place = drop (place - shown_about) (take place octets)
 abbrev pub shown_from : List ℕ → ℕ → List ℕ
 shown_from octets place = take (1 + shown_about) (drop place octets)
 
--- How many octets are faulty where so many stand in their element before them: the rest of the element, where it can
--- be read; else, and where they stand behind it, one (own).
-abbrev pub faulty_by : Result (Parts × List ℕ) BerFault → ℕ → ℕ
-faulty_by (Ok r) before = max 1 (length r.0.whole - before)
-faulty_by (Err fault) before = 1
+-- How many octets an element has left behind so many of its own; one where it has none left, or isn't read (own).
+abbrev pub left_by : Result (Parts × List ℕ) BerFault → ℕ → ℕ
+left_by (Ok r) before = max 1 (length r.0.whole - before)
+left_by (Err fault) before = 1
 
--- How many octets are faulty, from the place of the fault on: the rest of its element (own).
+-- How many octets the element of the fault has left from its place on (own).
+abbrev pub left_count : List ℕ → Explained → ℕ
+left_count octets found = left_by (element_at depth_limit (drop found.element octets)) (found.place - found.element)
+
+-- How many octets are faulty by a rule where the element has so many left: these; but one where an element can't be
+-- read within the contents that hold it, or is missing there, whatever stands behind them (own).
+abbrev pub faulty_by : Rule → ℕ → ℕ
+faulty_by rule.MessageLength left = left
+faulty_by (rule.Encoding fault) left = 1
+faulty_by (rule.Other line) left = left
+faulty_by (rule.Missing line) left = 1
+faulty_by (rule.Octets contents count) left = left
+
+-- How many octets are faulty, from the place of the fault on (own).
 abbrev pub faulty_count : List ℕ → Explained → ℕ
-faulty_count octets found = faulty_by (element_at depth_limit (drop found.element octets)) (found.place - found.element)
+faulty_count octets found = faulty_by found.rule (left_count octets found)
 
 -- The faulty octets, of those that are shown (own).
 abbrev pub shown_faulty : List ℕ → Explained → List ℕ

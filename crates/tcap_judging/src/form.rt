@@ -7,7 +7,7 @@ use crate::name_list::Named;
 pub enum Layout {
     /// A line for each message.
     Plain,
-    /// Plain, and below a faulty message its octets about the place of the fault, with a mark.
+    /// Plain, and below a faulty message its octets about the place of the fault, with marks below the faulty ones.
     Marked,
     /// An object of JSON in each line.
     Json,

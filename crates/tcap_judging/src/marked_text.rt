@@ -2,11 +2,11 @@
 
 ghost use Rattle.std.specs.Prelude.{◌≡◌, ◌++◌, OnOk, drop, string_bytes, take};
 ghost use Rattle.std.specs.List.{flat_map};
-ghost use Rattle.tcap_judging.specs.MarkedText.{shown_before, shown_from, shown_faulty, faulty_count, spaced, blanks, mark, marks, dots_before, blanks_before, dots_behind, shown_line, mark_line, marked_text};
+ghost use Rattle.tcap_judging.specs.MarkedText.{shown_before, shown_from, shown_faulty, left_count, faulty_by, faulty_count, spaced, blanks, mark, marks, dots_before, blanks_before, dots_behind, shown_line, mark_line, marked_text};
 
 use ber_core::{OutOfMemory, read_element};
 use std::alloc::Allocator;
-use tcap_explain::Explained;
+use tcap_explain::{Explained, Rule};
 use tcap_words::add_hex;
 
 /// How many octets are shown before the place, and behind its octet, at most.
@@ -48,9 +48,9 @@ fn shown_from(octets: &[u8], place: usize) -> &[u8]
     first_octets(octets_from(octets, place), 1 + ABOUT)
 }
 
-/// How many octets are faulty, from the place of the fault on: the rest of its element.
-fn faulty_count(octets: &[u8], found: &Explained) -> usize
-    ensures { result ≡ faulty_count octets.now found.now }
+/// How many octets the element of the fault has left from its place on; one where it has none, or isn't read.
+fn left_count(octets: &[u8], found: &Explained) -> usize
+    ensures { result ≡ left_count octets.now found.now }
 {
     match read_element(octets_from(octets, found.element)) {
         Ok((element, _)) => {
@@ -58,6 +58,17 @@ fn faulty_count(octets: &[u8], found: &Explained) -> usize
             element.whole.len().saturating_sub(before).max(1)
         }
         Err(_) => 1,
+    }
+}
+
+/// How many octets are faulty, from the place of the fault on: the rest of its element; one where an element can't be
+/// read within the contents that hold it, or is missing there, whatever stands behind them.
+fn faulty_count(octets: &[u8], found: &Explained) -> usize
+    ensures { result ≡ faulty_count octets.now found.now }
+{
+    match found.rule {
+        Rule::Encoding(_) | Rule::Missing(_) => 1,
+        _ => left_count(octets, found),
     }
 }
 

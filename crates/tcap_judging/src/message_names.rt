@@ -141,7 +141,7 @@ fn add_names<A: Allocator + Copy>(
     }
 }
 
-/// The same by what is known of it.
+/// Adds what a judged message names; octets that are none by their verdict name nothing.
 pub(crate) fn add_known_names<A: Allocator + Copy>(
     text: &mut String<A>,
     names: &[Named<'_>],

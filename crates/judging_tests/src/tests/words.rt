@@ -202,6 +202,18 @@ const FORMS: &[(&str, &str, &str)] = &[
         "m 620348\n",
         "m fault badly formatted place 3 element 0: expected 2 more octets, found the end\n    62 03 48\n             ^^\n",
     ),
+    // An element is missing, and a good one stands behind the contents.
+    (
+        "--explain",
+        "j 62124801076c0da103020101a106020102020102\n",
+        "j fault component 1 place 12 element 12: expected the linked identifier 0x80, the local code 0x02 or the global code 0x06, found the end\n    62 12 48 01 07 6c 0d a1 03 02 01 01 a1 06 02 01 02 02 01 02\n                                        ^^\n",
+    ),
+    // The octets that an element wants stand behind the contents.
+    (
+        "--explain",
+        "h 62134801076b04280506006c08a106020102020102\n",
+        "h fault dialogue place 11 element 7: expected 3 more octets, found the end\n    62 13 48 01 07 6b 04 28 05 06 00 6c 08 a1 06 02 01 02 02 01 02\n                                     ^^\n",
+    ),
     // Sixteen octets before the place, and sixteen behind its octet; an element that can't be read has one mark.
     (
         "--explain",
