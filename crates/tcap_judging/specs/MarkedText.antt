@@ -5,6 +5,7 @@ use Rattle.hex.specs.Hex.{encode_lower}
 use Rattle.ber_core.specs.Element.{Parts, depth_limit}
 use Rattle.ber_core.specs.ElementReading.{element_at}
 use Rattle.ber_core.specs.declared.fault.BerFault.{BerFault}
+use Rattle.tcap_explain.specs.Table.{is_over}
 use Rattle.tcap_explain.specs.declared.line.Explained.{Explained}
 use Rattle.tcap_explain.specs.declared.line.Rule.{Rule}
 use Rattle.tcap_explain.specs.declared.line.Rule.TheVariants as rule
@@ -26,16 +27,17 @@ abbrev pub left_by : Result (Parts × List ℕ) BerFault → ℕ → ℕ
 left_by (Ok r) before = max 1 (length r.0.whole - before)
 left_by (Err fault) before = 1
 
--- How many octets the element of the fault has left from its place on (own).
+-- How many octets the element of the fault has left from its place on; one where it has none left, or isn't read (own).
 abbrev pub left_count : List ℕ → Explained → ℕ
 left_count octets found = left_by (element_at depth_limit (drop found.element octets)) (found.place - found.element)
 
 -- How many octets are faulty by a rule where the element has so many left: these; but one where an element can't be
--- read within the contents that hold it, or is missing there, whatever stands behind them (own).
+-- read within the contents that hold it, or is missing there, or where these should end: what stands there may not end
+-- within them (own).
 abbrev pub faulty_by : Rule → ℕ → ℕ
 faulty_by rule.MessageLength left = left
 faulty_by (rule.Encoding fault) left = 1
-faulty_by (rule.Other line) left = left
+faulty_by (rule.Other line) left = if is_over line then 1 else left
 faulty_by (rule.Missing line) left = 1
 faulty_by (rule.Octets contents count) left = left
 

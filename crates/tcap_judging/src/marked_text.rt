@@ -6,7 +6,7 @@ ghost use Rattle.tcap_judging.specs.MarkedText.{shown_before, shown_from, shown_
 
 use ber_core::{OutOfMemory, read_element};
 use std::alloc::Allocator;
-use tcap_explain::{Explained, Rule};
+use tcap_explain::{Explained, Line, ListLine, Rule};
 use tcap_words::add_hex;
 
 /// How many octets are shown before the place, and behind its octet, at most.
@@ -62,13 +62,16 @@ fn left_count(octets: &[u8], found: &Explained) -> usize
 }
 
 /// How many octets are faulty, from the place of the fault on: the rest of its element; one where an element can't be
-/// read within the contents that hold it, or is missing there, whatever stands behind them.
+/// read within the contents that hold it, or is missing there, or where these should end.
+// Read from the place an element may go on behind those contents. Where it has another tag or other octets it doesn't: it
+// was read within them.
+#[tactic(auto, unfolding(tcap_explain::specs::Table::is_over))]
 fn faulty_count(octets: &[u8], found: &Explained) -> usize
     ensures { result ≡ faulty_count octets.now found.now }
 {
     match found.rule {
-        Rule::Encoding(_) | Rule::Missing(_) => 1,
-        _ => left_count(octets, found),
+        Rule::Encoding(_) | Rule::Missing(_) | Rule::Other(Line::List(ListLine::End)) => 1,
+        Rule::MessageLength | Rule::Other(_) | Rule::Octets(..) => left_count(octets, found),
     }
 }
 

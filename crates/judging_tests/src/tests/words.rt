@@ -214,6 +214,18 @@ const FORMS: &[(&str, &str, &str)] = &[
         "h 62134801076b04280506006c08a106020102020102\n",
         "h fault dialogue place 11 element 7: expected 3 more octets, found the end\n    62 13 48 01 07 6b 04 28 05 06 00 6c 08 a1 06 02 01 02 02 01 02\n                                     ^^\n",
     ),
+    // Nothing may follow; what stands there goes on behind the contents.
+    (
+        "--explain",
+        "m 622f4801076b20281c060700118605010101a011600f80020780a10906070400000100010304056c08a106020101020102\n",
+        "m fault dialogue place 37 element 37: expected the end, found 0x04\n    .. 0f 80 02 07 80 a1 09 06 07 04 00 00 01 00 01 03 04 05 6c 08 a1 06 02 01 01 02 01 02\n                                                       ^^\n",
+    ),
+    // Contents of no octets: the place is the end of the element.
+    (
+        "--explain",
+        "m 620c48006c08a106020101020102\n",
+        "m fault incorrect place 4 element 2: expected a transaction identifier of 1 to 4 octets, found 0 octets\n    62 0c 48 00 6c 08 a1 06 02 01 01 02 01 02\n                ^^\n",
+    ),
     // Sixteen octets before the place, and sixteen behind its octet; an element that can't be read has one mark.
     (
         "--explain",
