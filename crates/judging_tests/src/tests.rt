@@ -1,6 +1,7 @@
 //! The tests of `tcap_judging`.
 
 mod devices;
+mod forms;
 mod growths;
 mod long_lines;
 mod names;
