@@ -1,4 +1,5 @@
 pub mod BerCoreLemmas
+pub mod CallerLemmas
 pub mod ComponentAgain
 pub mod ComponentParts
 pub mod ComponentStands

@@ -1,7 +1,6 @@
 use Rattle.std.proofs.Common.{◌<◌, length, arith, rules, sym}
 use Rattle.ber_core.specs.Views.{head_fields, parts}
-use Rattle.tcap_explain.proofs.ListedLemmas.{indefinite-listed}
-use Rattle.tcap_explain.proofs.WalkLemmas.{head_from}
+use Rattle.tcap_explain.proofs.CallerLemmas.{indefinite-listed, head_from}
 use Rattle.tcap_judging.proofs.by_element.holds_list.Goals as goal
 
 pub returns-in-Ok : goal.returns-in-Ok
