@@ -2,7 +2,7 @@
 use Rattle.std.proofs.Common.{◌≡◌, ◌≢◌, ℕ, zero, suc, ◌+◌, ◌-◌, ◌*◌, ◌<◌, ◌≤◌, Bool, true, false, cond, ltb, List, [], ◌∷◌, ◌++◌, length, take, drop, Option, Some, None, Ok, Err, Result, refl, sym, ap, ◌∙◌, inl, inr, arith}
 use Rattle.std.proofs.lemmas.Bool.{cases_lt, lt-ltb, le-ltb, ne_eqb}
 use Rattle.ber_core.specs.declared.fault.BerFault.{BerFault}
-use Rattle.ber_core.specs.declared.fault.BerFault.TheVariants.{Short, BadLength, IndefinitePrimitive, TooDeep}
+use Rattle.ber_core.specs.declared.fault.BerFault.TheVariants.{Short, BadLength, IndefinitePrimitive}
 use Rattle.ber_core.specs.Results.{◌>>=◌}
 use Rattle.ber_core.specs.Length.{number_after}
 use Rattle.ber_core.specs.HeadReading.{length_at}
@@ -47,12 +47,6 @@ length-long_form c n b rest h i high =
     (ap (λ (w : Length). cond (ltb (length rest) (b - 128)) (Err Short) w >>= at_body n) (number-cond (ltb 65535 (number_after 0 (take (b - 128) rest))) (number_after 0 (take (b - 128) rest)) (drop (b - 128) rest)))
 
 -- ---- behind a length
-
-pub body-empty : (n : ℕ) (len : ℕ) (rest : List ℕ) → len ≡ 0 → outer_at n rest ≡ at_body n (Some len, rest)
-body-empty n len rest e = rw (e, le-ltb (length rest) 0 (omega arith)) refl
-
-pub body-too_deep : (n : ℕ) (rest : List ℕ) → 32 ≤ n → at_body n (None, rest) ≡ Err TooDeep
-body-too_deep n rest h = let e : 32 - n ≡ 0 = omega arith in rw e refl
 
 pub body-nested : (n : ℕ) (rest : List ℕ) → n < 32 → at_tag (n + 1) rest ≡ at_body n (None, rest)
 unfolding outer_at

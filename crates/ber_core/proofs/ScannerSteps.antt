@@ -131,12 +131,6 @@ unfolding head_at tag_at
 element-long_tag n b rest h low =
     rw (after_at-is (32 - n) (b ∷ rest), ne_eqb b 0 h, eq-eqb (bit_and b 31) 31 low) (further-head (all_further_at rest) b n rest)
 
-pub further-first : (c : Bool) (n b : ℕ) (rest : List ℕ) → b ≢ 128 → behind_further c n (b ∷ rest) (all_further_at (b ∷ rest)) ≡ behind_further c n (b ∷ rest) (further_at 4 (b ∷ rest))
-further-first c n b rest h = rw (ne_eqb b 128 h) refl
-
-pub further-padded : (c : Bool) (n b : ℕ) (rest : List ℕ) → b ≡ 128 → behind_further c n (b ∷ rest) (all_further_at (b ∷ rest)) ≡ Err BadTag
-further-padded c n b rest h = rw h refl
-
 pub further-last : (c : Bool) (n left b : ℕ) (rest : List ℕ) → 0 < left → b < 128 → behind_further c n (b ∷ rest) (further_at left (b ∷ rest)) ≡ at_length c n rest
 unfolding further_at
 further-last c n zero b rest h low = absurd (omega arith)

@@ -1,6 +1,6 @@
 //! The elements of a list, one after the other.
 
-ghost use Rattle.std.specs.Prelude.{◌≡◌, ◌≢◌, ◌↔◌, ◌==◌, ◌<◌, bit_and, false, List, IsTrue, IfOk, IfErr, IfSome, is_ok, option_map, Ok, Err};
+ghost use Rattle.std.specs.Prelude.{◌≡◌, List, IsTrue, IfOk, IfErr, IfSome, is_ok, option_map, Ok, Err};
 ghost use Rattle.ber_core.specs.ElementList.{IsList};
 ghost use Rattle.ber_core.specs.Place.{AtEnd};
 ghost use Rattle.ber_core.specs.Element.{Parts, depth_limit};
@@ -20,7 +20,6 @@ pub struct Elements<'a> {
 }
 
 impl<'a> Elements<'a> {
-    ghost use Rattle.ber_core.specs.Fault.{ElementFault};
     ghost use Rattle.ber_core.specs.ElementList.{IsList, BreaksOff, AreItems, items, items_and};
     ghost use Rattle.ber_core.specs.ListReading.{items_of};
     ghost use Rattle.ber_core.specs.Views.{items_left, bytes_left};

@@ -2,7 +2,7 @@
 #![tactic(auto, unfolding(crate::specs::Computing::computing))]
 
 ghost use Rattle.std.specs.Prelude.{◌≡◌, List, ℕ, [], ◌∷◌, ◌++◌, length, Some, None};
-ghost use Rattle.ber_core.specs.declared.fault.BerFault.TheVariants.{BadTag, TooDeep};
+ghost use Rattle.ber_core.specs.declared.fault.BerFault.TheVariants.{BadTag};
 ghost use Rattle.ber_core.specs.declared.fault.FeedFault.TheVariants.{Ber, TooLong};
 ghost use Rattle.ber_core.specs.Stream.{cut_of, cut_into};
 ghost use Rattle.ber_core.specs.Examples.{begin_octets, indefinite_octets, cuts_of_fronts, fronts_alone};

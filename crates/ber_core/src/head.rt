@@ -1,6 +1,6 @@
 //! Identifier octets and length octets (X.690, Structure of an encoding).
 
-ghost use Rattle.std.specs.Prelude.{◌≡◌, ◌≢◌, ◌↔◌, ◌==◌, ℕ, bit_and, false, List, ◌<◌, ◌≤◌, length, Option, IfOk, IfErr, IsOkAnd, IsTrue, Ok};
+ghost use Rattle.std.specs.Prelude.{◌≡◌, ◌≢◌, ◌↔◌, ◌==◌, ℕ, bit_and, false, List, ◌<◌, ◌≤◌, length, Option, IfOk, IfErr, IsOkAnd, IsTrue};
 ghost use Rattle.ber_core.specs.Results.{Gives};
 ghost use Rattle.ber_core.specs.Tag.{is_constructor};
 ghost use Rattle.ber_core.specs.Head.{BeginsWithHead};

@@ -1,7 +1,7 @@
 //! Where an element ends. The contents of one of indefinite form are scanned octet by octet; at most
 //! `MAX_DEPTH` of them are open.
 
-ghost use Rattle.std.specs.Prelude.{◌≡◌, ◌+◌, ◌≤◌, length, IfOk, Ok};
+ghost use Rattle.std.specs.Prelude.{◌≡◌, ◌+◌, ◌≤◌, length, IfOk};
 ghost use Rattle.ber_core.specs.Element.{depth_limit};
 ghost use Rattle.ber_core.specs.Results.{Gives};
 ghost use Rattle.ber_core.specs.ElementReading.{inner_at, body_at, content_of};

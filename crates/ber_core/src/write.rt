@@ -4,7 +4,7 @@
 ghost use Rattle.std.specs.Prelude.{◌≡◌, ◌+◌, ◌<◌, ◌≤◌, ◌++◌, OnOk, OnErr, length, vec_len, vec_capacity};
 ghost use Rattle.ber_core.specs.Length.{length_limit};
 ghost use Rattle.ber_core.specs.Tag.{IsTag};
-ghost use Rattle.ber_core.specs.Written.{length_octets, written_head, written};
+ghost use Rattle.ber_core.specs.Written.{written_head, written};
 
 use crate::fault::OutOfMemory;
 use crate::put::{push_each, put_length};

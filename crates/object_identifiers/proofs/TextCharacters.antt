@@ -1,8 +1,8 @@
 -- The characters of a text that names an object identifier.
-use Rattle.std.proofs.Common.{◌≡◌, ◌<◌, ◌-◌, eqb, inl, inr, ℕ, zero, suc, Bool, true, false, List, [], ◌∷◌, slice_index, refl, sym, arith, Option, Some, None, Result, Ok, Err}
+use Rattle.std.proofs.Common.{◌≡◌, ◌<◌, ◌-◌, eqb, inl, inr, ℕ, zero, suc, Bool, true, false, List, [], ◌∷◌, slice_index, refl, arith, Option, Some, None, Result, Ok, Err}
 use Rattle.std.specs.Prelude.{◌&&◌, nat_le, if◌then◌else◌}
 use Rattle.std.specs.Result.{result_ok}
-use Rattle.std.specs.Str.{IsAscii, IsUtf8}
+use Rattle.std.specs.Str.{IsUtf8}
 use Rattle.std.proofs.lemmas.Str.{IsUtf8-from_ascii}
 use Rattle.std.proofs.lemmas.Bool.{eqb-true, leb-true}
 use Rattle.ber_core.specs.Results.{◌>>=◌}

@@ -1,6 +1,6 @@
 //! An object identifier: its contents octets, from its dotted text, and back.
 
-ghost use Rattle.std.specs.Prelude.{◌≡◌, ◌≤◌, List, ℕ, IfOk, IsOkAnd, IfSome, IsSomeAnd, length, option_map};
+ghost use Rattle.std.specs.Prelude.{◌≡◌, List, ℕ, IfOk, IsOkAnd, IfSome, IsSomeAnd, option_map};
 ghost use Rattle.ber_core.specs.ObjectIdentifier.{IsObjectIdentifier};
 ghost use Rattle.ber_core.specs.Results.{Gives};
 ghost use Rattle.object_identifiers.specs.Arcs.{NamesOctets};

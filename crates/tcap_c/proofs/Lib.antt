@@ -2,7 +2,6 @@ pub mod ArgumentLemmas
 pub mod CodecLemmas
 pub mod CopyLemmas
 pub mod HandleValues
-pub mod LayingLemmas
 pub mod NameLemmas
 pub mod ReadingLemmas
 pub mod RoomLemmas

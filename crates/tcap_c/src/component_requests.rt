@@ -7,7 +7,6 @@ ghost use Rattle.tcap_dialogue.specs.RequestForm.{gave_up, numbered, queued_done
 ghost use Rattle.tcap_engine.specs.StepForm.{birth_answer};
 ghost use Rattle.tcap_model.specs.Words.Event.{Event};
 ghost use Rattle.tcap_model.specs.Words.Request.{Request};
-ghost use Rattle.tcap_primitives.specs.declared.fault.Fault.{Fault as Refusal};
 ghost use Rattle.tcap_c.specs.Arguments.{cancel_of, error_of, invoke_of, reject_of, result_last_of, result_more_of};
 ghost use Rattle.tcap_c.specs.Status.{taken_number};
 ghost use Rattle.tcap_c.specs.StepForm.{Asked, Refuses};

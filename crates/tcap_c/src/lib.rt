@@ -1,4 +1,7 @@
 //! The engine for C: calls that take a handle to a station.
+//!
+//! Stands on `tcap_station`, `tcap_text`, `object_identifiers` and the crates below them; c/tcap.c stands over it. Begin
+//! at `tcap_c_open`, which makes a handle; a handle's station and what C is told of it stand in src/handle.rt.
 #![tactic(auto)]
 
 mod arguments;

@@ -2,15 +2,15 @@
 
 ghost use Rattle.std.specs.Prelude.{◌≡◌, option_copied};
 ghost use Rattle.std.specs.Option.{option_map};
-ghost use Rattle.tcap_component.specs.Views.{body_parts, code_parts, problem_parts};
+ghost use Rattle.tcap_component.specs.Views.{code_parts, problem_parts};
 ghost use Rattle.tcap_pdu.specs.DialogueViews.{pdu_value};
-ghost use Rattle.tcap_c.specs.Numbers.{closing_of, of_dialogue, of_dialogue_if_any, of_invocation, with_body};
+ghost use Rattle.tcap_c.specs.Numbers.{closing_of, of_dialogue, of_dialogue_if_any, of_invocation};
 ghost use Rattle.tcap_c.specs.Numbers.{with_cause, with_code, with_context, with_id, with_linked, with_parameter};
 ghost use Rattle.tcap_c.specs.Numbers.{with_pdu, with_problem};
 
 use crate::numbering::{diagnostic_number, id_number, problem_number};
 use crate::output_numbers::OutputNumbers;
-use tcap_component::{Body, Code, Problem};
+use tcap_component::{Code, Problem};
 use tcap_pdu::DialoguePdu;
 
 /// Each says a thing more of an output.
@@ -122,17 +122,6 @@ impl OutputNumbers {
         OutputNumbers {
             has_parameter: parameter.is_some(),
             ..self
-        }
-    }
-
-    /// It has the body of a result, or none.
-    #[inline(always)]
-    pub(crate) fn with_body(self, body: Option<Body<'_>>) -> OutputNumbers
-        ensures { result ≡ with_body (option_map body_parts body.entry) self }
-    {
-        match body {
-            Some(body) => self.with_code(body.code).with_parameter(body.parameter),
-            None => self,
         }
     }
 

@@ -1,8 +1,6 @@
 //! What a call answers C.
 
 ghost use Rattle.std.specs.Prelude.{◌≡◌};
-ghost use Rattle.ber_core.specs.declared.fault.OutOfMemory.{OutOfMemory};
-ghost use Rattle.tcap_primitives.specs.declared.fault.Fault.{Fault};
 ghost use Rattle.tcap_c.specs.Status.{status_number, taken_number, received_number};
 
 use ber_core::OutOfMemory;

@@ -1,7 +1,7 @@
 //! The numbers of an output are those that its types hold. Each function does nothing; its clause is what a caller
 //! learns.
 
-ghost use Rattle.std.specs.Prelude.{IsTrue, ◌<◌};
+ghost use Rattle.std.specs.Prelude.{◌<◌};
 ghost use Rattle.std.specs.Option.{option_map};
 ghost use Rattle.tcap_component.specs.Views.{problem_parts};
 ghost use Rattle.tcap_pdu.specs.DialogueViews.{source};

@@ -1,5 +1,5 @@
 -- A dialogue more in the table, under an identifier above all.
-use Rattle.std.proofs.Common.{◌≡◌, ℕ, ◌+◌, ◌<◌, ◌≤◌, Bool, true, false, cond, nat_eq, List, [], ◌∷◌, ◌++◌, Some, None, Option, is_some, length, nat_le, if◌then◌else◌, refl, ap, arith, tests}
+use Rattle.std.proofs.Common.{◌≡◌, ℕ, ◌+◌, ◌<◌, ◌≤◌, Bool, true, false, cond, nat_eq, List, [], ◌∷◌, ◌++◌, Some, None, length, nat_le, if◌then◌else◌, refl, ap, arith, tests}
 use Rattle.std.proofs.lemmas.Bool.{eqb-true}
 use Rattle.std.proofs.lemmas.List.{length-append, length-map}
 use Rattle.std.specs.Map.{lookup}
@@ -62,8 +62,3 @@ sound-push limits d next_number clock ps x h is within free = record {
 pub born_by : (w : World) → birth_fault_in w ≡ None → engine_move w Event.new_dialogue ≡ born_in w (Answer.new_dialogue w.next_dialogue) (fresh_dialogue w.next_dialogue w.reject_ms w.idle_ms)
 unfolding engine_move
 born_by w e = ap (asked_in w) e
-
--- Where it isn't said that none can be created, one can.
-pub can_be_born : (o : Option Fault) → is_some o ≡ false → o ≡ None
-can_be_born None e = refl
-can_be_born (Some f) e = absurd cc

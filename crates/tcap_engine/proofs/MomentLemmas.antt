@@ -1,5 +1,5 @@
 -- What a moment leaves of the table.
-use Rattle.std.proofs.Common.{◌≡◌, ℕ, zero, suc, ◌+◌, ◌<◌, ◌≤◌, Bool, true, false, cond, nat_eq, List, [], ◌∷◌, length, map, Some, refl, ap, sym, ◌∙◌, arith}
+use Rattle.std.proofs.Common.{◌≡◌, ℕ, zero, suc, ◌+◌, ◌<◌, ◌≤◌, Bool, true, false, cond, nat_eq, List, [], ◌∷◌, map, Some, refl, ap, sym, ◌∙◌, arith}
 use Rattle.std.proofs.lemmas.List.{length-map}
 use Rattle.std.specs.Map.{lookup, set_value}
 use Rattle.tcap_engine.specs.IdleDialogues.{entry_at}
@@ -7,11 +7,8 @@ use Rattle.tcap_engine.specs.DialogueEntries.{TableEntry, AreFrom, AreDrawn, Are
 use Rattle.tcap_engine.specs.declared.limits.Limits.{Limits}
 use Rattle.tcap_invocation.specs.Stage.{moment_limit}
 use Rattle.tcap_invocation.proofs.CallerLemmas.{AllBelow-after_lapse}
-use Rattle.tcap_dialogue.specs.RequestForm.{takes_memory}
 use Rattle.tcap_model.specs.Table.Dialogue.{Dialogue}
 use Rattle.tcap_model.specs.Table.DueLapses.{at_moment}
-use Rattle.tcap_model.specs.Words.Answer.{Answer}
-use Rattle.tcap_model.specs.Words.Output.{Output}
 
 -- ---- what a moment leaves
 
@@ -56,10 +53,6 @@ dialogues-at now [] = refl
 dialogues-at now (p ∷ ps) = ap (λ (ds : List Dialogue). at_moment now p.1 ∷ ds) (dialogues-at now ps)
 
 -- ---- the move
-
-pub some-told : (os : List Output) → 0 < length os → takes_memory (Answer.outputs os) ≡ true
-some-told [] h = absurd (omega (arith, h))
-some-told (o ∷ os) h = refl
 
 pub not-zero : (n : ℕ) → (n ≡ 0 → ⊥) → 0 < n
 not-zero zero h = absurd (h refl)

@@ -15,7 +15,7 @@ ghost use Rattle.tcap_reception.specs.StateViews.{state_of};
 ghost use Rattle.timed_table.specs.Row.{entries_of, with_time, without};
 
 use ber_core::OutOfMemory;
-use std::alloc::{Allocator, Global};
+use std::alloc::{AllocFailed, Allocator, Global};
 use std::fmt;
 use std::marker::Model;
 use tcap_dialogue::{Dialogue, Spares, State};
@@ -111,7 +111,7 @@ impl<A: Allocator + Copy> Dialogues<A> {
     {
         match self.rows.insert(identifier, dialogue, None) {
             Ok(()) => Ok(()),
-            Err(_) => Err(OutOfMemory),
+            Err(AllocFailed { .. }) => Err(OutOfMemory),
         }
     }
 

@@ -1,6 +1,6 @@
 //! The invocations of a history, and the marks that close them.
 
-ghost use Rattle.std.specs.Prelude.{◌≡◌, ◌<◌, ◌≤◌, ℕ, ℤ, not, ◌||◌, ◌++◌, Bool, true, false, [], ◌∷◌, Some, None, is_some, option_map};
+ghost use Rattle.std.specs.Prelude.{◌≡◌, ◌<◌, ◌≤◌, ℕ, ℤ, not, ◌||◌, ◌++◌, true, false, [], ◌∷◌, Some, None, is_some, option_map};
 ghost use Rattle.tcap_model.specs.Words.Answer.{Answer, is_accepted};
 ghost use Rattle.tcap_model.specs.Histories.Clock.{clock};
 ghost use Rattle.tcap_model.specs.Invocations.Closings.{Told};

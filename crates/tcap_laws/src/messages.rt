@@ -3,7 +3,7 @@
 ghost use Rattle.std.specs.Prelude.{◌≡◌, ◌≢◌, ◌↔◌, ◌⊎◌, ℕ, ℤ, ◌<◌, ◌≤◌, List, [], ◌∷◌, ◌++◌, Option, IsTrue, length};
 ghost use Rattle.tcap_pdu.specs.declared.fault.FrameFault.{FrameFault};
 ghost use Rattle.tcap_pdu.specs.FrameFaults.{IsFrameFault};
-ghost use Rattle.tcap_pdu.specs.FrameSpelling.{Message, Reason, SpellsFrame};
+ghost use Rattle.tcap_pdu.specs.FrameSpelling.{Message, SpellsFrame};
 ghost use Rattle.tcap_pdu.specs.FrameWritten.{message_limit};
 ghost use Rattle.tcap_pdu.specs.Front.{Front};
 ghost use Rattle.tcap_component.specs.Component.{ComponentParts};

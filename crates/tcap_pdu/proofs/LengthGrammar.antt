@@ -82,13 +82,6 @@ length-content d (go_on o t own c) =
     omega (arith, a, b, g, e, f)
 length-content d (abort t r) = reason-length d t r
 
-tag-with : (d : Option (List ℕ)) (m : Message) → message_tag (with_dialogue d m) ≡ message_tag m
-tag-with d (unidirectional own c) = refl
-tag-with d (begin o own c) = refl
-tag-with d (end t own c) = refl
-tag-with d (go_on o t own c) = refl
-tag-with d (abort t r) = refl
-
 -- the written message, with these contents of 6B in place of its own
 pub length-with : (d : Option (List ℕ)) (m : Message) → length (written_frame (with_dialogue d m)) ≡ frame_length (option_map length d) m
 length-with d m = length-written (message_tag (with_dialogue d m)) (written_fields (fields (with_dialogue d m))) ∙ ap element_length (length-content d m)

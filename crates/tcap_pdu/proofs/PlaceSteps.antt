@@ -5,9 +5,8 @@ use Rattle.std.specs.List.{list_all}
 use Rattle.std.specs.Prelude.{IfSome, IfOk, unwrap_or, is_ok, ok_or, Result, Ok, Err, if◌then◌else◌}
 use Rattle.ber_core.specs.Place.{Slice}
 use Rattle.ber_core.specs.Way.{IsInside, IsInsideIfAny, GoesOn, IsOnWay, IsOnWayIfAny}
-use Rattle.ber_core.proofs.CallerLemmas.{by_option, list_again, inside-goes, inside-goes-any, way-one, way-one-any, way-in, way-any}
+use Rattle.ber_core.proofs.CallerLemmas.{by_option, list_again, inside-goes, way-one, way-one-any, way-in, way-any}
 use Rattle.tcap_pdu.specs.declared.frame.Frame.{Frame}
-use Rattle.tcap_pdu.specs.declared.frame.AbortPart.{AbortPart}
 use Rattle.ber_core.specs.Element.{Parts}
 use Rattle.ber_core.specs.ListReading.{items_of}
 use Rattle.ber_core.specs.SequenceReading.{alone_at}
@@ -18,22 +17,11 @@ use Rattle.ber_core.specs.Results.{Gives}
 use Rattle.tcap_pdu.specs.declared.fault.FrameFault.{FrameFault}
 use Rattle.tcap_pdu.specs.declared.fault.FrameFault.TheVariants.{Incorrect, BadlyFormatted}
 use Rattle.tcap_pdu.specs.FrameSpelling.{Message, message_tag}
-use Rattle.tcap_pdu.specs.FramePortions.{dialogue_slice, components_slice, reason_slice}
-use Rattle.tcap_pdu.specs.FramePlace.{PortionsIn, ReasonIn, FrameIn, FrameInPlace}
+use Rattle.tcap_pdu.specs.FramePortions.{dialogue_slice, components_slice}
+use Rattle.tcap_pdu.specs.FramePlace.{FrameIn, FrameInPlace}
 use Rattle.tcap_pdu.specs.FrameViews.{message}
 
 -- ---- messages
-
-dialogue-goes : (d : Option Slice) (rest bytes : Slice) → GoesOn 0x6b rest bytes → IfSome d (λ x. IsInside 0x6b x rest) → IfSome d (λ x. IsInside 0x6b x bytes)
-dialogue-goes None rest bytes g i = tt
-dialogue-goes (Some x) rest bytes g i = inside-goes 0x6b x rest bytes g i
-
--- behind an element of another tag the portions are looked for in what follows
-pub portions-go : (d : Option Slice) (c rest bytes : Slice) → GoesOn 0x6b rest bytes → GoesOn 0x6c rest bytes → PortionsIn d c rest → PortionsIn d c bytes
-portions-go d c rest bytes g h p = (dialogue-goes d rest bytes g p.0, inside-goes-any 0x6c c rest bytes h p.1)
-
-pub reason-goes : (r : AbortPart) (rest bytes : Slice) → GoesOn 0x6b rest bytes → ReasonIn r rest → ReasonIn r bytes
-reason-goes r rest bytes g i = dialogue-goes (reason_slice r) rest bytes g i
 
 -- a component portion that may be left out
 pub left_out : (tag : ℕ) (o : Option Slice) (c default rest bytes : Slice) → GoesOn tag rest bytes → c ≡ unwrap_or o default → default.now ≡ [] → IfSome o (λ x. IsInside tag x rest) → IsInsideIfAny tag c bytes

@@ -1,6 +1,6 @@
 //! Laws of the definitions, each the contract of a function that does nothing.
 
-ghost use Rattle.std.specs.Prelude.{◌≡◌, ◌≢◌, ◌≤◌, ℕ, List, [], Some, length, option_map, Ok};
+ghost use Rattle.std.specs.Prelude.{◌≡◌, ◌≢◌, ◌≤◌, ℕ, List, [], Some, length, Ok};
 ghost use Rattle.tcap_pdu.specs.declared.fault.FrameFault.{FrameFault};
 ghost use Rattle.tcap_pdu.specs.declared.tag.TheConstants.{UNRECOGNIZED_MESSAGE_TYPE, UNRECOGNIZED_TRANSACTION_ID, BADLY_FORMATTED_TRANSACTION_PORTION, INCORRECT_TRANSACTION_PORTION, RESOURCE_LIMITATION};
 ghost use Rattle.tcap_pdu.specs.declared.dialogue_tag.TheConstants.{NULL, NO_REASON_GIVEN, CONTEXT_NAME_NOT_SUPPORTED, NO_COMMON_DIALOGUE_PORTION};

@@ -1,6 +1,6 @@
 //! A play that is played line by line.
 
-ghost use Rattle.std.specs.Prelude.{◌≡◌, ◌≤◌, IfOk, string_bytes};
+ghost use Rattle.std.specs.Prelude.{◌≤◌, IfOk, string_bytes};
 ghost use Rattle.tcap_invocation.specs.Stage.{moment_limit};
 ghost use Rattle.tcap_play.specs.EnginesView.{PlaysLine, StandAt};
 ghost use Rattle.tcap_play.specs.Play.{not_begun};
@@ -39,7 +39,8 @@ impl<A: Allocator + Copy> Engines<A> {
         line: &[u8],
         text: &mut String<A>,
     ) -> Result<bool, OutOfMemory>
-        ensures { IfOk result (λ done. PlaysLine line.now done self.old self.new (string_bytes text.old) (string_bytes text.new)) }
+        ensures { IfOk result (λ done. PlaysLine line.now done self.old self.new
+            (string_bytes text.old) (string_bytes text.new)) }
     {
         let addresses = Addresses::new();
         let mut words = Vec::new(alloc);

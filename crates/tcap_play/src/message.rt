@@ -1,6 +1,6 @@
 //! Messages that were sent, and what became of them.
 
-ghost use Rattle.std.specs.Prelude.{◌≡◌, ◌<◌, ◌+◌, ◌⊎◌, Some, None, option_map, MatchOption};
+ghost use Rattle.std.specs.Prelude.{◌≡◌, ◌<◌, ◌+◌, ◌⊎◌, None, option_map, MatchOption};
 ghost use Rattle.tcap_play.specs.Play.{has_fate, message_in};
 ghost use Rattle.tcap_play.specs.PlayViews.{IsThere, SetsFate, fate_view, message_view, messages_view};
 

@@ -1,6 +1,6 @@
 //! The sides of a play: of each an engine, and the messages that it sent; and what a line does to them.
 
-ghost use Rattle.std.specs.Prelude.{◌≡◌, ◌++◌, OnOk, string_bytes, ◌+◌, IfOk, ℕ, List};
+ghost use Rattle.std.specs.Prelude.{◌≡◌, ◌++◌, OnOk, string_bytes, IfOk, ℕ, List};
 ghost use Rattle.tcap_primitives.specs.OutputViews.{all_shown, shown};
 ghost use Rattle.tcap_engine.specs.EventViews.{answer_view, event_view};
 ghost use Rattle.tcap_play.specs.Play.{messages_in, messages_of, handed, Fate as Became, message_in, step};

@@ -1,8 +1,8 @@
-use Rattle.std.proofs.Common.{◌≡◌, ℕ, ◌+◌, ◌≤◌, ◌<◌, ◌-◌, nat_le, Bool, ◌&&◌, false, List, [], ◌∷◌, ◌++◌, length, take, drop, Option, refl, sym, ap, ◌∙◌, arith}
+use Rattle.std.proofs.Common.{◌≡◌, ℕ, ◌+◌, ◌≤◌, ◌<◌, ◌-◌, Bool, ◌&&◌, List, [], ◌∷◌, ◌++◌, length, take, drop, Option, refl, sym, ap, ◌∙◌, arith}
 use Rattle.std.proofs.Math.Seq.{take-length}
 use Rattle.std.proofs.lemmas.Bool.Decides.{nat_tests}
 use Rattle.std.proofs.lemmas.List.{take-append-le, drop-append-le, take-append-drop, length-drop}
-use Rattle.tcap_model.specs.Procedures.QueueRules.{Queued, queue_limit, queue_if_fits, fits}
+use Rattle.tcap_model.specs.Procedures.QueueRules.{Queued, queue_limit, queue_if_fits}
 use Rattle.std.specs.List.{list_all}
 use Rattle.std.specs.Option.{option_map}
 use Rattle.tcap_model.specs.Procedures.QueueRules.{can_go_alone, goes_alone, joined}
@@ -51,16 +51,6 @@ cut-fits parts all c whole within = rw (cut-joined parts all whole) (grind (arit
 pub cut-full : (parts : List Part) (all : List ℕ) (c : Queued) → total parts ≡ length all → queue_limit < length all + length c.octets →
     queue_if_fits queue_limit (cut parts all) c ≡ cut parts all
 cut-full parts all c whole above = rw (cut-joined parts all whole) (grind (arith, nat_tests))
-
--- Whether a component fits, by lengths.
-pub cut-room : (parts : List Part) (all : List ℕ) (c : Queued) → total parts ≡ length all → length c.octets ≤ queue_limit →
-    nat_le (length all) (queue_limit - length c.octets) ≡ fits queue_limit (cut parts all) c
-cut-room parts all c whole within = rw (cut-joined parts all whole) (grind (arith, nat_tests))
-
--- One that is above the limit alone doesn't fit.
-pub cut-above : (parts : List Part) (all : List ℕ) (c : Queued) → total parts ≡ length all → queue_limit < length c.octets →
-    false ≡ fits queue_limit (cut parts all) c
-cut-above parts all c whole above = rw (cut-joined parts all whole) (grind (arith, nat_tests))
 
 -- Whether the components may go alone, by what they ask for.
 pub cut-alone : (parts : List Part) (all : List ℕ) → list_all (λ (c : Queued). goes_alone c.invoking) (cut parts all) ≡ list_all (λ (p : Part). goes_alone (option_map invoking_view p.invoking)) parts

@@ -1,5 +1,5 @@
 -- Indications as a contract sees them.
-use Rattle.std.specs.Prelude.{ℕ, ◌+◌, List, length, option_copied, Option, Some, None, Result, Ok, Err}
+use Rattle.std.specs.Prelude.{ℕ, ◌+◌, length, option_copied, Option, Some, None, Result, Ok, Err}
 use Rattle.std.specs.Option.{option_map}
 use Rattle.ber_core.specs.Place.{Slice}
 use Rattle.tcap_component.specs.Views.{code_parts, body_parts, problem_parts}

@@ -9,7 +9,6 @@ use Rattle.std.proofs.Math.Facts.{sfits_to_z}
 use Rattle.tcap_model.specs.Words.InRange.{is_identifier, is_long, is_short}
 use Rattle.tcap_record.specs.Fields.{Reading, listed}
 use Rattle.tcap_record.specs.Parts
-use Rattle.tcap_record.specs.Parts.{CodeForm, local_form, global_form}
 use Rattle.tcap_record.proofs.OctetLemmas.{wide32, wide64, both_true, true_both}
 use Rattle.tcap_record.proofs.FieldLaws.{IsField, IsNaming, CountedFits, number_field, named_field, counted_field}
 use Rattle.tcap_record.proofs.ChoiceLaws.{IsView, OfKind, as_field, nothing_field, choice_field, chosen, respelled}

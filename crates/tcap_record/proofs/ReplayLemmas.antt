@@ -1,5 +1,5 @@
 -- Events that follow one another in a log.
-use Rattle.std.proofs.Common.{◌≡◌, ℕ, ◌+◌, ◌-◌, ◌^◌, ◌<◌, ◌≤◌, List, [], ◌∷◌, ◌++◌, length, Result, Ok, Err, refl, sym, ap, subst, ◌∙◌, append_assoc, arith}
+use Rattle.std.proofs.Common.{◌≡◌, ℕ, ◌+◌, ◌-◌, ◌<◌, ◌≤◌, List, [], ◌∷◌, ◌++◌, length, Result, Ok, Err, refl, sym, ap, subst, ◌∙◌, append_assoc, arith}
 use Rattle.std.specs.Prelude.{IfOk, OnOk}
 use Rattle.std.proofs.lemmas.List.{append-nil, length-append}
 use Rattle.std.proofs.lemmas.List.Concat.{flat_map-cons, flat_map-append}
@@ -14,7 +14,7 @@ use Rattle.tcap_record.specs.Records.{record_of, log_of, HasRecord, AllHaveRecor
 use Rattle.tcap_record.specs.declared.fault.ReplayFault.{ReplayFault}
 use Rattle.tcap_record.specs.declared.replaying.Stop.{Stop}
 use Rattle.tcap_record.specs.declared.replaying.Stop.TheVariants as stops
-use Rattle.tcap_record.specs.Replaying.{PlaceFits, Replayed, ReplayedOne, StopsReplay, StopsStep, WantsFirst, fault_from}
+use Rattle.tcap_record.specs.Replaying.{Replayed, ReplayedOne}
 use Rattle.tcap_record.proofs.RecordLaws.{one_log}
 
 run-one : (w : World) (es : List Event) (e : Event) → (engine_run w (es ++ (e ∷ []))).after ≡ (engine_move (engine_run w es).after e).after
@@ -31,16 +31,6 @@ all-one (x ∷ es) e all has = (all.0, all-one es e all.1 has)
 
 pub log-one : (es : List Event) (e : Event) → log_of (es ++ (e ∷ [])) ≡ log_of es ++ record_of e
 log-one es e = flat_map-append record_of es (e ∷ []) ∙ ap (λ (xs : List ℕ). log_of es ++ xs) (flat_map-cons record_of e [] ∙ append-nil (record_of e))
-
-pub none-replayed : (log : List ℕ) (w : World) → Replayed log 0 log w w
-none-replayed log w = record {
-  events = [];
-  are_so_many = refl;
-  have_records = tt;
-  is_log = refl;
-  moved = refl;
-  stands = λ h at. at;
-}
 
 -- One event more.
 pub one-replayed : (log : List ℕ) (count : ℕ) (between rest : List ℕ) (old middle new : World)
@@ -97,17 +87,3 @@ same-if-whole log old new (Ok count) r events first after before answers all is 
 same-if-whole log old new (Err fault) r events first after before answers all is ran same = tt
 
 -- ---- where a replay stops
-
-pub place-fits : (stop : Stop) (log rest : List ℕ) (old new : World) → length log < 2 ^ 64 → length rest ≤ length log
-    → StopsStep stop rest old new → PlaceFits stop (length log - length rest)
-place-fits stops.OutOfMemory log rest old new fits le s = tt
-place-fits (stops.Damaged offset) log rest old new fits le s = omega (arith, fits, le, s.1.stops_at.within)
-
-pub stops-replay : (stop : Stop) (log rest : List ℕ) (done : ℕ) (old middle new : World) → Replayed log done rest old middle
-    → 0 < length rest → StopsStep stop rest middle new → StopsReplay (fault_from stop done (length log - length rest)) log old new
-stops-replay stops.OutOfMemory log rest done old middle new so_far more s =
-    let r : Replayed log done rest old new = subst (λ (w : World). Replayed log done rest old w) (sym s.0) so_far in
-    (rest, r, subst (λ (w : World). WantsFirst rest w) (sym s.0) s.1)
-stops-replay (stops.Damaged offset) log rest done old middle new so_far more s =
-    let r : Replayed log done rest old new = subst (λ (w : World). Replayed log done rest old w) (sym s.0) so_far in
-    (rest, r, more, (offset, refl, s.1))

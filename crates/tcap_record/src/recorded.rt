@@ -5,7 +5,6 @@ ghost use Rattle.tcap_engine.specs.EventViews.{event_view};
 ghost use Rattle.tcap_record.specs.RecordViews.{kept_view, recorded_view};
 
 use crate::kept::Kept;
-use tcap_address::Address;
 use tcap_engine::{BeginRequest, Event, UniRequest};
 
 /// The event of a record that was read. Its octets lie in the record, its address, where it has one, in here;

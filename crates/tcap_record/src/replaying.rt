@@ -1,6 +1,6 @@
 //! A log of events handed to an engine.
 
-ghost use Rattle.std.specs.Prelude.{◌≡◌, ◌++◌, [], List, IfErr, IfOk, OnOk, OnErr};
+ghost use Rattle.std.specs.Prelude.{◌≡◌, [], List, IfErr, IfOk, OnOk, OnErr};
 ghost use Rattle.tcap_engine.specs.EventViews.{event_view};
 ghost use Rattle.tcap_engine.specs.Running.{MayWant, Runs};
 ghost use Rattle.tcap_model.specs.Table.EngineMove.{engine_move};

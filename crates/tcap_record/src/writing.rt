@@ -1,6 +1,6 @@
 //! Records written: appended to a vector, for which room is found first.
 
-ghost use Rattle.std.specs.Prelude.{◌≡◌, ◌++◌, ◌+◌, ◌<◌, ◌≤◌, ◌^◌, Some, None, IfErr, IfSome, IsTrue, OnErr, OnOk, if◌then◌else◌, length, vec_capacity, vec_len};
+ghost use Rattle.std.specs.Prelude.{◌≡◌, ◌++◌, ◌<◌, ◌≤◌, ◌^◌, Some, None, IfErr, IsTrue, OnErr, OnOk, if◌then◌else◌, length, vec_capacity, vec_len};
 ghost use Rattle.tcap_engine.specs.EventViews.{event_view};
 ghost use Rattle.tcap_model.specs.Words.Event as model;
 ghost use Rattle.tcap_model.specs.Words.InRange.{InRange};

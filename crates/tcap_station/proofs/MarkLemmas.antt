@@ -4,32 +4,10 @@ use Rattle.std.proofs.lemmas.List.{append-nil, length-append, append_assoc, drop
 use Rattle.std.specs.List.{slice_get}
 use Rattle.std.specs.Option.{option_map}
 use Rattle.tcap_model.specs.Words.Output.{Output}
-use Rattle.tcap_station.specs.Marks.{AreMarked, less_one, marked, one_less, with_first, with_mark}
+use Rattle.tcap_station.specs.Marks.{AreMarked, marked, with_first, with_mark}
 use Rattle.tcap_station.specs.WaitingOutput.{WaitingOutput, is_any, numbered_outputs}
 use Rattle.tcap_station.specs.WaitingViews.{output_of}
 use Rattle.tcap_station.specs.declared.line.marks.Mark.{Mark}
-
--- An output is taken: the events have the others.
-pub taken-are : (ms : List Mark) (os : List Output) → AreMarked ms os → AreMarked (less_one ms) (drop 1 os)
-taken-are [] os h = rw h refl
-taken-are (m ∷ ms) os h = go m.left os h.0.some h.0.within h.1
-  where
-    go : (n : ℕ) (os : List Output) → 0 < n → n ≤ length os → AreMarked ms (drop n os) → AreMarked (one_less m.event n ms) (drop 1 os)
-    go zero os some within rest = absurd (omega (arith, some))
-    go (suc n) [] some within rest = absurd (omega (arith, within))
-    go (suc zero) (o ∷ os) some within rest = rest
-    go (suc (suc n)) (o ∷ os) some within rest = (record { some = omega arith; within = omega (arith, within) }, rest)
-
--- They are numbered as they were.
-pub taken-marked : (ms : List Mark) (os : List Output) → AreMarked ms os → marked (less_one ms) (drop 1 os) ≡ drop 1 (marked ms os)
-taken-marked [] os h = refl
-taken-marked (m ∷ ms) os h = go m.left os h.0.some h.0.within
-  where
-    go : (n : ℕ) (os : List Output) → 0 < n → n ≤ length os → marked (one_less m.event n ms) (drop 1 os) ≡ drop 1 (numbered_outputs m.event (take n os) ++ marked ms (drop n os))
-    go zero os some within = absurd (omega (arith, some))
-    go (suc n) [] some within = absurd (omega (arith, within))
-    go (suc zero) (o ∷ os) some within = refl
-    go (suc (suc n)) (o ∷ os) some within = refl
 
 -- The output that comes next is the first one, with the number of the first event; it is the last where one is left.
 pub first-marked : (m : Mark) (ms : List Mark) (os : List Output) (o : Output) → AreMarked (m ∷ ms) os → slice_get os 0 ≡ Some o

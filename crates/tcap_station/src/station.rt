@@ -6,7 +6,7 @@ pub(crate) mod events;
 pub(crate) mod getters;
 pub(crate) mod reading;
 
-ghost use Rattle.std.specs.Prelude.{◌≡◌, ◌≤◌, [], ℕ};
+ghost use Rattle.std.specs.Prelude.{◌≡◌, ◌≤◌, []};
 ghost use Rattle.tcap_engine.specs.Limits.{AreLimits, empty_history};
 ghost use Rattle.tcap_model.specs.Table.World.{StandsAt, first_world};
 

@@ -244,7 +244,8 @@ pub(crate) fn add_end<A: Allocator>(
     report: Report,
     tally: Tally,
 ) -> Result<(), OutOfMemory>
-    ensures { OnOk result (text.new.items ≡ text.old.items ++ end_of report tally.passed tally.failed tally.not_read) }
+    ensures { OnOk result (text.new.items
+        ≡ text.old.items ++ end_of report tally.passed tally.failed tally.not_read) }
 {
     match report {
         Report::Lines => add_counts(text, tally),

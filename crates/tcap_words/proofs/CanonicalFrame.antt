@@ -47,9 +47,6 @@ dialogue_of-canonical (abort t nothing) = refl
 dialogue_of-canonical (abort t (cause n)) = refl
 dialogue_of-canonical (abort t (portion d)) = refl
 
-pub components-empty : length (canonical_components []) ≡ 0
-components-empty = ap (λ xs. length (flat_map canonical_item xs)) components_of-empty
-
 pub components_in-canonical : (m : Message) → components_in (canonical_message m) ≡ canonical_components (components_in m)
 components_in-canonical (unidirectional d c) = refl
 components_in-canonical (begin o d c) = refl
@@ -75,11 +72,6 @@ canonical-within m = subst (λ (w : List ℕ). length w ≤ length (canonical_fr
 pub fault_within : (part whole : List ℕ) (f : CanonFault) → length part ≤ length whole → IsCanonFault part f → IsCanonFault whole f
 fault_within part whole canon.OutOfMemory le h = tt
 fault_within part whole canon.TooLong le h = omega (arith, le, h)
-
-pub portion_fault : (m : Message) (o : Option (List ℕ)) (f : CanonFault) → o ≡ dialogue_of m → IsCanonFault (unwrap_or (option_map canonical_dialogue o) []) f → IsCanonFault (canonical_frame m) f
-portion_fault m o f is h =
-    let here : IsCanonFault (unwrap_or (option_map canonical_dialogue (dialogue_of m)) []) f = subst (λ (x : Option (List ℕ)). IsCanonFault (unwrap_or (option_map canonical_dialogue x) []) f) is h in
-    fault_within (unwrap_or (option_map canonical_dialogue (dialogue_of m)) []) (canonical_frame m) f (portion-within m) here
 
 pub components_fault : (m : Message) (w : List ℕ) (f : CanonFault) → w ≡ components_in m → IsCanonFault (canonical_components w) f → IsCanonFault (canonical_frame m) f
 components_fault m w f is h =

@@ -1,4 +1,4 @@
-//! Octets in hexadecimal.
+//! Hexadecimal that is written: the digits of octets, appended to a text.
 
 ghost use Rattle.std.specs.Prelude.{◌≡◌, ◌<◌, ◌≤◌, ◌+◌, ◌*◌, ◌++◌, length, map, slice_index, IsAscii, OnOk, OnErr, string_bytes, string_capacity, string_len};
 ghost use Rattle.std.specs.Simd.Lanes.{Each1};

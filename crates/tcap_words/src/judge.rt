@@ -1,13 +1,13 @@
 //! What the verdict on bytes is.
 
-ghost use Rattle.std.specs.Prelude.{◌≡◌, ◌<◌, ◌++◌, length, not, is_err, is_some, IfSome, IfOk, OnOk, OnErr, Ok, string_bytes, option_copied};
+ghost use Rattle.std.specs.Prelude.{◌≡◌, ◌<◌, ◌++◌, length, not, is_err, is_some, IfSome, IfOk, OnOk, OnErr, string_bytes, option_copied};
 ghost use Rattle.std.specs.List.{position_from};
 ghost use Rattle.ber_core.specs.Results.{Gives};
 ghost use Rattle.tcap_pdu.specs.FrameViews.{message, reason_of};
 ghost use Rattle.tcap_pdu.specs.DialogueReading.{dialogue_at};
 ghost use Rattle.tcap_component.specs.ComponentReading.{components_of};
 ghost use Rattle.tcap_words.specs.Text.{line};
-ghost use Rattle.tcap_words.specs.Verdict.{verdict_of_fault, message_of, is_known, is_read, is_good_portion, is_good_reason, components_verdict, portions_verdict, message_verdict, verdict_of, is_good, is_numbered, verdict_words};
+ghost use Rattle.tcap_words.specs.Verdict.{verdict_of_fault, message_of, is_known, is_good_portion, is_good_reason, components_verdict, portions_verdict, message_verdict, verdict_of, is_good, is_numbered, verdict_words};
 
 use crate::shown::Shown;
 use crate::text::add_number;

@@ -1,6 +1,6 @@
-//! Octets in hexadecimal.
+//! Hexadecimal that is read: whether a word is octets, and which.
 
-ghost use Rattle.std.specs.Prelude.{◌≡◌, ◌↔◌, Bool, is_some, true, option_map, IsTrue, IfOk, OnErr};
+ghost use Rattle.std.specs.Prelude.{◌≡◌, ◌↔◌, is_some, true, option_map, IsTrue, IfOk, OnErr};
 ghost use Rattle.hex.specs.Hex.{is_hex_digit};
 ghost use Rattle.tcap_words.specs.Spelling.{IsHex, spelled_by};
 

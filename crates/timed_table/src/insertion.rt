@@ -5,7 +5,7 @@
 ghost use Rattle.std.specs.Prelude.{◌≡◌, ◌<◌, ◌++◌, [], ◌∷◌, None, length, OnOk, OnErr, IfOk, IfErr};
 ghost use Rattle.slab.specs.Slab.{get, HasRoomFor};
 ghost use Rattle.timed_table.specs.Row.{AllBelow};
-ghost use Rattle.timed_table.specs.Tied.{IsSound, IsExtended, all_rows, timer_named};
+ghost use Rattle.timed_table.specs.Tied.{IsSound, IsExtended, all_rows};
 
 use crate::keys::Keys;
 use crate::table::timer_named;

@@ -102,15 +102,6 @@ module _ (key new : ℕ → Option Timer) (len hole : ℕ) (but : IsOrderedBut k
 pub below-before : (key : ℕ → Option Timer) (len hole up : ℕ) → IsOrderedBut key len hole → IsChild hole up → comes_before (key hole) (key up) ≡ true → IsFineBelow key len hole
 below-before key len hole up but is before c h lt = comes_before-through (key hole) (key up) (key c) (comes_before-asym (key hole) (key up) before) (but.across up c is h lt)
 
--- A place that is not before the one that is above it.
-pub fine-above : (key : ℕ → Option Timer) (hole up : ℕ) → IsChild hole up → comes_before (key hole) (key up) ≡ false → IsFineAbove key hole
-fine-above key hole up is later p h = subst (λ x. comes_before (key hole) (key x) ≡ false) (same_parent hole up p is h) later
-
--- The first place has none above.
-pub fine-above-first : (key : ℕ → Option Timer) → IsFineAbove key 0
-fine-above-first key p (inl h) = absurd (omega (arith, h))
-fine-above-first key p (inr h) = absurd (omega (arith, h))
-
 -- The least of the places below is not before the place: none is.
 pub fine-below : (key : ℕ → Option Timer) (len hole down : ℕ) → ((c : ℕ) → IsChild c hole → c < len → comes_before (key c) (key down) ≡ false) → comes_before (key down) (key hole) ≡ false → IsFineBelow key len hole
 fine-below key len hole down least later c h lt = comes_before-through (key hole) (key down) (key c) later (least c h lt)

@@ -2,8 +2,8 @@
 
 // Hints to inline: each step of an engine runs through it; docs/PERF.md says what the whole of it inlined gains.
 
-ghost use Rattle.std.specs.Prelude.{◌≡◌, ◌≢◌, ◌<◌, ◌+◌, ◌*◌, ◌≤◌, ℕ, false, length, ◌^◌};
-ghost use Rattle.timer_queue.specs.Order.{comes_before, timer_at};
+ghost use Rattle.std.specs.Prelude.{◌≡◌, ◌<◌, ◌+◌, ◌*◌, ℕ, false, length, ◌^◌};
+ghost use Rattle.timer_queue.specs.Order.{comes_before};
 ghost use Rattle.timer_queue.specs.Heap.{IsChild, IsOrdered, IsOrderedBut, IsFineBelow, IsFineAbove, IsTied, item_at, key_at, heap_swapped, heap_with, places_swapped, places_with};
 
 use crate::timer::Timer;

@@ -1,6 +1,6 @@
 //! Reading the first element of some octets.
 
-ghost use Rattle.std.specs.Prelude.{◌≡◌, ℕ, ◌++◌, List, IsOkAnd, IfOk, IfErr, Ok};
+ghost use Rattle.std.specs.Prelude.{◌≡◌, ℕ, ◌++◌, List, IsOkAnd, IfOk, IfErr};
 ghost use Rattle.ber_core.specs.Results.{Gives};
 ghost use Rattle.ber_core.specs.Tag.{is_constructor};
 ghost use Rattle.ber_core.specs.Element.{IsElement, Parts, depth_limit};

@@ -1,11 +1,11 @@
 //! What a feed finds in one piece.
 
-ghost use Rattle.std.specs.Prelude.{◌≡◌, ◌≢◌, ◌-◌, ◌≤◌, ◌<◌, ◌++◌, ◌∷◌, [], take, length, map, IfOk, IfErr, IfSome, OnErr, OnOk};
+ghost use Rattle.std.specs.Prelude.{◌≡◌, ◌≢◌, ◌-◌, ◌≤◌, ◌++◌, [], take, length, map, IfOk, IfSome, OnErr};
 ghost use Rattle.ber_core.specs.Length.{length_limit};
 ghost use Rattle.ber_core.specs.Stream.{cut_of};
 ghost use Rattle.ber_core.specs.Pieces.{IsUnderWay, SplitsInto, EndsSo};
 
-use crate::fault::{BerFault, FeedFault, OutOfMemory};
+use crate::fault::{FeedFault, OutOfMemory};
 use crate::head::MAX_LENGTH;
 use crate::scanner::Scanner;
 use std::alloc::Allocator;

@@ -1,7 +1,5 @@
 //! What the next octet of an element is.
 
-ghost use Rattle.std.specs.Prelude.{◌≡◌};
-
 /// What the next octet of an element is.
 #[derive(Clone, Copy, Debug)]
 pub enum Due {

@@ -1,6 +1,6 @@
 //! One octet of a head, or of an end.
 
-ghost use Rattle.std.specs.Prelude.{◌≡◌, ◌<◌, ◌≤◌, ◌+◌, ◌*◌, [], ◌∷◌, List, ℕ, Some, None};
+ghost use Rattle.std.specs.Prelude.{◌≡◌, ◌<◌, ◌≤◌, ◌+◌, ◌*◌, ◌∷◌, List, ℕ, Some, None};
 ghost use Rattle.ber_core.specs.Scanning.{Leads, goes_on, goes_on_or, outer_at, at_tag, at_element, at_end, at_body, at_length, at_long, behind_further, at_due};
 ghost use Rattle.ber_core.specs.HeadReading.{all_further_at, further_at};
 ghost use Rattle.ber_core.specs.Length.{length_limit};

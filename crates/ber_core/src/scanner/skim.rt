@@ -1,6 +1,6 @@
 //! Heads, ends and elements that stand whole in the octets: each is passed over at once.
 
-ghost use Rattle.std.specs.Prelude.{◌≡◌, ◌≢◌, ◌==◌, ◌↔◌, ◌<◌, ◌≤◌, ◌++◌, ◌∷◌, bit_and, true, false, length, List, ℕ, IsTrue, IfSome, IfNone};
+ghost use Rattle.std.specs.Prelude.{◌≡◌, ◌≢◌, ◌==◌, ◌↔◌, ◌<◌, ◌≤◌, ◌++◌, ◌∷◌, bit_and, false, length, List, ℕ, IsTrue, IfSome, IfNone};
 ghost use Rattle.ber_core.specs.Element.{depth_limit};
 ghost use Rattle.ber_core.specs.Scanning.{goes_on, goes_on_or, outer_at, at_tag};
 
@@ -203,9 +203,10 @@ impl Scanner {
         ensures shorter { length result.1.now ≤ length bytes.now }
         ensures whole { IfNone result.0 (length result.1.now < length bytes.now) }
     {
-        match self.due {
-            Due::Tag => skim(self.nested, bytes),
-            _ => (Some(self), bytes),
+        if matches!(self.due, Due::Tag) {
+            skim(self.nested, bytes)
+        } else {
+            (Some(self), bytes)
         }
     }
 }

@@ -1,6 +1,6 @@
 //! The octets of a slice.
 
-ghost use Rattle.std.specs.Prelude.{◌≡◌, ◌<◌, ◌≤◌, ◌+◌, [], ◌∷◌, ◌++◌, false, length, List, ℕ, IfOk, IfErr, IfSome, IfNone, Err};
+ghost use Rattle.std.specs.Prelude.{◌≡◌, ◌<◌, ◌≤◌, [], ◌∷◌, ◌++◌, false, length, List, ℕ, IfOk, IfErr, IfSome, IfNone, Err};
 ghost use Rattle.ber_core.specs.Scanning.{goes_on, goes_on_or, at_due, outer_at};
 ghost use Rattle.ber_core.specs.Element.{depth_limit};
 ghost use Rattle.ber_core.specs.ElementReading.{after_at};

@@ -18,7 +18,6 @@ ghost use Rattle.tcap_model.specs.Words.Event.{Event};
 ghost use Rattle.tcap_model.specs.Words.Identifiers.{last_dialogue};
 ghost use Rattle.tcap_model.specs.Procedures.PortionRules.{begin_verdict};
 ghost use Rattle.tcap_model.specs.Procedures.Reception.{begin_by};
-ghost use Rattle.tcap_model.specs.Words.Address.{Address};
 
 use super::Engine;
 use ber_core::OutOfMemory;

@@ -1,6 +1,6 @@
 //! What is seen of an engine.
 
-ghost use Rattle.std.specs.Prelude.{◌≡◌, [], option_copied};
+ghost use Rattle.std.specs.Prelude.{◌≡◌, option_copied};
 ghost use Rattle.tcap_engine.specs.StateOf.{state_in, state_in_life};
 ghost use Rattle.tcap_model.specs.Histories.Clock.{clock};
 ghost use Rattle.tcap_model.specs.Histories.History.{History};

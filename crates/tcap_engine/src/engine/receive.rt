@@ -3,7 +3,7 @@
 
 // Hints to inline: each step of an engine runs through it; docs/PERF.md says what the whole of it inlined gains.
 
-ghost use Rattle.std.specs.Prelude.{◌≡◌, ◌++◌, ◌∷◌, [], None, is_some, option_copied, true, IfSome, OnOk, OnErr, ◌≤◌, nat_eq, IsSome};
+ghost use Rattle.std.specs.Prelude.{◌≡◌, ◌++◌, ◌∷◌, [], is_some, option_copied, true, IfSome, OnOk, OnErr, ◌≤◌, nat_eq, IsSome};
 ghost use Rattle.tcap_primitives.specs.AbortViews.{CanWriteAbort, abort_sent, cause_number};
 ghost use Rattle.tcap_primitives.specs.OutputViews.{drop_view};
 ghost use Rattle.tcap_engine.specs.StepForm.{EngineReceives, ReceivesInto, outputs_answer, since_answer};

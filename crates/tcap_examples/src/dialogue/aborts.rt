@@ -2,12 +2,12 @@
 
 #![tactic(auto, unfolding(crate::specs::Computing::computing))]
 
-ghost use Rattle.std.specs.Prelude.{◌≡◌, pos, List, [], ◌∷◌, ◌++◌, true, false, Option, Some, None};
+ghost use Rattle.std.specs.Prelude.{pos, [], ◌∷◌, ◌++◌, true, false, Some, None};
 ghost use Rattle.tcap_pdu.specs.DialogueSpelling.{PduValue, Source};
 ghost use Rattle.tcap_model.specs.Words.Answer.{Answer};
 ghost use Rattle.tcap_examples.specs.Values.DialogueValues.{context, aarq, aare, aare_result, code, one_invoke, one_invoke_told, first_ended, begin_with_aarq, begin_with_aarq_told, EndsTold};
 ghost use Rattle.tcap_examples.specs.Values.Hex.{hex};
-ghost use Rattle.tcap_model.specs.Words.Output.{Output, AbortCause, Closing};
+ghost use Rattle.tcap_model.specs.Words.Output.{AbortCause, Closing};
 ghost use Rattle.tcap_model.specs.Words.Request.{Ending, AbortReason};
 ghost use Rattle.tcap_examples.specs.Dialogues.Played.{opened, begun_from, heard, Answers, Ends};
 ghost use Rattle.tcap_model.specs.Table.TableMove.{DialogueEvent};

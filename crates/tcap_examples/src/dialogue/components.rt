@@ -2,17 +2,15 @@
 
 #![tactic(auto, unfolding(crate::specs::Computing::computing))]
 
-ghost use Rattle.std.specs.Prelude.{◌≡◌, pos, negsuc, List, [], ◌∷◌, ◌++◌, replicate, false, Option, Some, None};
-ghost use Rattle.tcap_component.specs.Component.{CodeParts};
+ghost use Rattle.std.specs.Prelude.{pos, negsuc, [], ◌∷◌, ◌++◌, replicate, Some, None};
 ghost use Rattle.tcap_invocation.specs.declared.class.Class.TheVariants.{One, Two, Three, Four};
 ghost use Rattle.tcap_model.specs.Words.Answer.{Answer};
 ghost use Rattle.tcap_examples.specs.Values.DialogueValues.{aare_result, code, body, invoke, plain_begin, go_on, one_invoke, one_invoke_told, result_of_first, first_result, shown_begin, shown_begin_told, general, of_invoke, of_result, of_error};
 ghost use Rattle.tcap_examples.specs.Values.Hex.{hex};
-ghost use Rattle.tcap_model.specs.Words.Output.{Output, AbortCause, Closing, Rejector};
+ghost use Rattle.tcap_model.specs.Words.Output.{AbortCause, Closing, Rejector};
 ghost use Rattle.tcap_model.specs.Words.Request.{Ending};
 ghost use Rattle.tcap_examples.specs.Dialogues.Refused.{with_room};
 ghost use Rattle.tcap_examples.specs.Dialogues.Played.{opened, begun_from, heard, Answers, Ends};
-ghost use Rattle.tcap_model.specs.Table.TableMove.{DialogueEvent};
 ghost use Rattle.tcap_model.specs.Table.TableMove.DialogueEvent.{request, moment};
 ghost use Rattle.tcap_examples.specs.Values.Asked as asks;
 ghost use Rattle.tcap_examples.specs.Values.Told as told;

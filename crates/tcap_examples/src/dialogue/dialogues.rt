@@ -2,20 +2,20 @@
 
 #![tactic(auto, unfolding(crate::specs::Computing::computing))]
 
-ghost use Rattle.std.specs.Prelude.{◌≡◌, pos, List, [], ◌∷◌, ◌++◌, drop, false, Option, Some, None};
+ghost use Rattle.std.specs.Prelude.{◌≡◌, pos, [], ◌∷◌, ◌++◌, drop, Some, None};
 ghost use Rattle.tcap_component.specs.Component.{CodeParts};
 ghost use Rattle.tcap_invocation.specs.declared.class.Class.TheVariants.{One};
 ghost use Rattle.tcap_model.specs.Words.Answer.{Answer};
-ghost use Rattle.tcap_examples.specs.Values.DialogueValues.{context, aarq_version, aarq, aare, code, invoke, go_on, one_invoke, one_invoke_told, first_ended, begin_with_aarq, begin_with_aarq_told};
+ghost use Rattle.tcap_examples.specs.Values.DialogueValues.{context, aarq_version, aarq, aare, invoke, go_on, one_invoke, one_invoke_told, first_ended, begin_with_aarq, begin_with_aarq_told};
 ghost use Rattle.tcap_model.specs.Words.Fault.{Fault};
 ghost use Rattle.tcap_examples.specs.Values.Hex.{hex};
-ghost use Rattle.tcap_model.specs.Words.Output.{Output, AbortCause, Closing};
+ghost use Rattle.tcap_model.specs.Words.Output.{AbortCause, Closing};
 ghost use Rattle.tcap_model.specs.Procedures.PortionRules.{BeginVerdict, begin_verdict};
 ghost use Rattle.tcap_model.specs.Procedures.Refusals.{invoke_fault};
 ghost use Rattle.tcap_model.specs.Words.Request.{AbortReason};
 ghost use Rattle.tcap_model.specs.Words.State.{State};
 ghost use Rattle.tcap_examples.specs.Dialogues.Played.{opened, begun_from, play, heard, Answers, Ends};
-ghost use Rattle.tcap_model.specs.Table.TableMove.{DialogueEvent, situation};
+ghost use Rattle.tcap_model.specs.Table.TableMove.{situation};
 ghost use Rattle.tcap_model.specs.Table.TableMove.DialogueEvent.{request};
 ghost use Rattle.tcap_examples.specs.Values.Asked as asks;
 ghost use Rattle.tcap_examples.specs.Values.Told as told;

@@ -8,7 +8,7 @@
 //!   the message has the queue, of at most 60,000 octets, and two identifiers.
 #![tactic(auto, unfolding(crate::specs::Computing::computing))]
 
-ghost use Rattle.std.specs.Prelude.{◌≡◌, pos, List, [], ◌∷◌, ◌++◌, replicate, Option, Some, None};
+ghost use Rattle.std.specs.Prelude.{pos, [], ◌++◌, replicate, Some, None};
 ghost use Rattle.tcap_invocation.specs.declared.class.Class.TheVariants.{One};
 ghost use Rattle.tcap_examples.specs.Values.DialogueValues.{context, bad_code, bad_parameter, code, body, long_parameter, long_bad_parameter, shown_begin, begin_with_aarq, of_result, active, one_queued, full_queue};
 ghost use Rattle.tcap_model.specs.Words.Fault.{Fault};

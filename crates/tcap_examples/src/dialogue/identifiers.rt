@@ -2,19 +2,18 @@
 
 #![tactic(auto, unfolding(crate::specs::Computing::computing))]
 
-ghost use Rattle.std.specs.Prelude.{◌≡◌, pos, List, [], ◌∷◌, ◌++◌, false, Option, Some, None};
+ghost use Rattle.std.specs.Prelude.{◌≡◌, pos, [], ◌∷◌, ◌++◌, false, Some, None};
 ghost use Rattle.tcap_invocation.specs.declared.class.Class.TheVariants.{One, Four};
 ghost use Rattle.tcap_model.specs.Words.Answer.{Answer};
 ghost use Rattle.tcap_examples.specs.Values.DialogueValues.{code, invoke, invoke_within, plain_begin, go_on, one_invoke, one_invoke_told, one_long_invoke, result_of_first, first_result, first_ended, of_invoke, of_result};
 ghost use Rattle.tcap_model.specs.Words.Fault.{Fault};
 ghost use Rattle.tcap_examples.specs.Values.Hex.{hex};
-ghost use Rattle.tcap_model.specs.Words.Output.{Output, Closing};
+ghost use Rattle.tcap_model.specs.Words.Output.{Closing};
 ghost use Rattle.tcap_model.specs.Procedures.Reception.{Reception, reception};
 ghost use Rattle.tcap_model.specs.Words.Request.{Ending};
 ghost use Rattle.tcap_examples.specs.Dialogues.Played.{opened, opened_with, heard, is_none_live, Answers, Ends};
 ghost use Rattle.tcap_component.specs.ComponentReading.{components_of};
 ghost use Rattle.tcap_model.specs.Procedures.ComponentHandling.{uni_told};
-ghost use Rattle.tcap_model.specs.Table.TableMove.{DialogueEvent};
 ghost use Rattle.tcap_model.specs.Table.TableMove.DialogueEvent.{request, moment};
 ghost use Rattle.tcap_examples.specs.Values.Asked as asks;
 ghost use Rattle.tcap_examples.specs.Values.Told as told;

@@ -2,11 +2,11 @@
 
 #![tactic(auto, unfolding(crate::specs::Computing::computing))]
 
-ghost use Rattle.std.specs.Prelude.{◌≡◌, ℕ, List, [], ◌∷◌, ◌++◌, replicate, true, false, Option, Some, None};
+ghost use Rattle.std.specs.Prelude.{◌≡◌, [], ◌++◌, replicate, true, false, Some, None};
 ghost use Rattle.tcap_pdu.specs.FrameSpelling.{Message};
-ghost use Rattle.tcap_examples.specs.Values.DialogueValues.{context, aarq, aarq_version, aare_result, shown_begin, is_first_live};
+ghost use Rattle.tcap_examples.specs.Values.DialogueValues.{aarq, aarq_version, aare_result, shown_begin, is_first_live};
 ghost use Rattle.tcap_examples.specs.Values.Hex.{hex};
-ghost use Rattle.tcap_model.specs.Words.Output.{Output, DropCause};
+ghost use Rattle.tcap_model.specs.Words.Output.{DropCause};
 ghost use Rattle.tcap_examples.specs.Dialogues.Played.{aborted_with, broken_with, is_none_live};
 ghost use Rattle.tcap_model.specs.Procedures.Reception.{Reception, reception};
 

@@ -2,13 +2,12 @@
 
 #![tactic(auto, unfolding(crate::specs::Computing::computing))]
 
-ghost use Rattle.std.specs.Prelude.{◌≡◌, pos, List, [], ◌∷◌, ◌++◌, replicate, Option, Some, None};
+ghost use Rattle.std.specs.Prelude.{pos, [], ◌∷◌, ◌++◌, replicate, Some, None};
 ghost use Rattle.tcap_invocation.specs.declared.class.Class.TheVariants.{One, Four};
 ghost use Rattle.tcap_model.specs.Words.Answer.{Answer};
-ghost use Rattle.tcap_examples.specs.Values.DialogueValues.{context, bad_code, bad_parameter, code, long_parameter, invoke, plain_begin, shown_begin, begin_with_aarq, begin_with_aarq_told, active, one_queued};
+ghost use Rattle.tcap_examples.specs.Values.DialogueValues.{context, bad_code, bad_parameter, code, long_parameter, invoke, shown_begin, begin_with_aarq, begin_with_aarq_told, active, one_queued};
 ghost use Rattle.tcap_model.specs.Words.Fault.{Fault};
 ghost use Rattle.tcap_examples.specs.Values.Hex.{hex};
-ghost use Rattle.tcap_model.specs.Words.Output.{Output};
 ghost use Rattle.tcap_model.specs.Words.Request.{Ending, AbortReason};
 ghost use Rattle.tcap_examples.specs.Dialogues.Played.{opened, play, begun_from, Answers, Ends};
 ghost use Rattle.tcap_examples.specs.Dialogues.Refused.{with_numbers_spent, Refused};

@@ -2,13 +2,12 @@
 //! and histories that miss them.
 #![tactic(auto, using(crate::proofs::ComponentsWork::components_work, crate::proofs::ComponentsBroken::components_broken))]
 
-ghost use Rattle.std.specs.Prelude.{[], ◌∷◌, None};
+ghost use Rattle.std.specs.Prelude.{[], None};
 ghost use Rattle.tcap_pdu.specs.FrameSpelling.{SpellsFrame};
 ghost use Rattle.tcap_component.specs.ComponentList.{FirstFault};
 ghost use Rattle.tcap_model.specs.Statements.ToldFrom.{IsOfComponent, ToldFromOne, ToldFrom};
 ghost use Rattle.tcap_model.specs.Statements.SentFrom.{SentFromOne, SentFrom};
 ghost use Rattle.tcap_model.specs.Statements.ComponentPortion.{portion_of};
-ghost use Rattle.tcap_model.specs.Words.Output.{Output};
 ghost use Rattle.tcap_model.specs.Statements.Places.{StandsIn, Tells};
 ghost use Rattle.tcap_examples.specs.Statements.ComponentExamples.{past, begin_sent, begin_pair, begin_message, two_invokes, before_the_begin, reject_continue, reject_pair, reject_message, reject, before_the_reject, late, result_told, result_pair, before_the_result, begin_received, begun_pair, invoke_told, crossed_queues, misread};
 ghost use Rattle.tcap_examples.specs.Wrong.WrongHistories.{GoesWrong, whole};

@@ -2,7 +2,7 @@
 //! that they name, and what answers a faulty message.
 #![tactic(auto, using(crate::proofs::GrammarWorks::grammar_works), unfolding(crate::specs::Computing::computing))]
 
-ghost use Rattle.std.specs.Prelude.{◌≡◌, [], Option, Some, None, option_map};
+ghost use Rattle.std.specs.Prelude.{◌≡◌, [], Some, None, option_map};
 ghost use Rattle.tcap_pdu.specs.declared.fault.FrameFault.TheVariants.{BadlyFormatted};
 ghost use Rattle.tcap_pdu.specs.FrameFaults.{IsFrameFault};
 ghost use Rattle.tcap_pdu.specs.FrameWritten.{written_frame};

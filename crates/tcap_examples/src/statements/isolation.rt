@@ -2,7 +2,7 @@
 //! does the conclusion; for a fifth, without an invocation number left, it doesn't.
 #![tactic(auto, using(crate::proofs::IsolationWorks::isolation_works), unfolding(crate::specs::Computing::computing))]
 
-ghost use Rattle.std.specs.Prelude.{◌≡◌, ◌≢◌, [], ◌∷◌, false, IsTrue, None};
+ghost use Rattle.std.specs.Prelude.{◌≡◌, ◌≢◌, [], ◌∷◌, false, IsTrue};
 ghost use Rattle.tcap_model.specs.Words.Answer.{Answer};
 ghost use Rattle.tcap_model.specs.Histories.Birth.{was_born};
 ghost use Rattle.tcap_model.specs.Words.Fault.{Fault};
@@ -11,7 +11,6 @@ ghost use Rattle.tcap_model.specs.Statements.Isolation.{IsAlone, history_of};
 ghost use Rattle.tcap_model.specs.Replies.Legal.{IsLegal};
 ghost use Rattle.tcap_model.specs.Histories.Names.{names};
 ghost use Rattle.tcap_model.specs.Statements.Only.{only};
-ghost use Rattle.tcap_model.specs.Words.Output.{Output};
 ghost use Rattle.tcap_model.specs.Replies.Reply.{reply};
 ghost use Rattle.tcap_examples.specs.Nets.PlayedNets.{play_start};
 ghost use Rattle.tcap_examples.specs.Statements.IsolationExamples.{two_dialogues, first_alone, before_the_lapse, before_the_invoke, first_invokes, invokes_again, first_cancels, first_hears, both_lapse, nobody_cancels, first_lapses, second_lapses, last_but_one, last, two_left, of_one_begin, with_one_peer, IsAloneThroughout};

@@ -2,16 +2,15 @@
 //! "after the Invoke".
 #![tactic(auto, using(crate::proofs::RepeatedNets::repeated_nets, crate::proofs::RepeatedBegin::repeated_begin_works, crate::proofs::AnswersAhead::answers_ahead, crate::proofs::LastMessages::last_messages, crate::proofs::TwoEndsWork::repeated_begin_is_two_ended), unfolding(crate::specs::Computing::computing))]
 
-ghost use Rattle.std.specs.Prelude.{◌≡◌, ◌≤◌, pos, length, drop, None};
+ghost use Rattle.std.specs.Prelude.{◌≤◌, pos, length, drop, None};
 ghost use Rattle.tcap_component.specs.Component.{CodeParts};
 ghost use Rattle.tcap_model.specs.Invocations.Closings.{closings};
 ghost use Rattle.tcap_examples.specs.Values.DialogueValues.{code};
 ghost use Rattle.tcap_model.specs.Replies.Legal.{IsLegal};
-ghost use Rattle.tcap_model.specs.Statements.Net.{Engine, Trace, IsNet, IsCarried, history_in, side};
-ghost use Rattle.tcap_model.specs.Histories.Pair.{Pair};
+ghost use Rattle.tcap_model.specs.Statements.Net.{Engine, IsNet, IsCarried, history_in, side};
 ghost use Rattle.tcap_model.specs.Statements.Places.{Tells};
 ghost use Rattle.tcap_model.specs.Statements.TwoEnds.{UsesOnce, AnswersWhatItWasTold, WasOpened, WasSent, WasAsked, Origin, Operations, TwoEnds};
-ghost use Rattle.tcap_model.specs.Statements.FarAnswer.{Happens, IsAnswer, IsFarRequest, ComesFromFar};
+ghost use Rattle.tcap_model.specs.Statements.FarAnswer.{Happens, IsAnswer, ComesFromFar};
 ghost use Rattle.tcap_examples.specs.Nets.PlayedNets.{repeated_begin, before_the_answer, answer_told, answer_closes, second_request, before_the_repeat, repeat_told, invoked, answered_ahead, heard_as_one, used_again, forged, alone_told, in_a_unidirectional, end_told, in_an_end, IsAnsweredAhead};
 ghost use Rattle.tcap_examples.specs.Histories.Readings.{given_up_before_it_was_sent};
 ghost use Rattle.tcap_examples.specs.Values.Told as told;

@@ -2,11 +2,11 @@
 //! received was sent by the other.
 #![tactic(auto, unfolding(crate::specs::Computing::computing))]
 
-ghost use Rattle.tcap_model.specs.Statements.Net.{Engine, IsCarried, history_in};
+ghost use Rattle.tcap_model.specs.Statements.Net.{IsCarried, history_in};
 ghost use Rattle.tcap_model.specs.Statements.TwoEnds.{Origin};
 ghost use Rattle.tcap_model.specs.Replies.Legal.{IsLegal};
 ghost use Rattle.tcap_examples.specs.Nets.WrongNets.{crossed_queues, empty_at_a_lapse};
-ghost use Rattle.tcap_examples.specs.Nets.Engines.{engine_a, engine_b, two_places};
+ghost use Rattle.tcap_examples.specs.Nets.Engines.{engine_a, two_places};
 
 /// At a lapse an empty result is told: no request of the far user is its origin.
 pub fn an_empty_result_at_a_lapse()

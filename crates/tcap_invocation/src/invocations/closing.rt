@@ -2,7 +2,7 @@
 
 // Hints to inline: each step of an engine runs through it; docs/PERF.md says what the whole of it inlined gains.
 
-ghost use Rattle.std.specs.Prelude.{◌≡◌, ◌≢◌, ◌<◌, [], ◌∷◌, length, is_some, OnOk, OnErr, IfOk, IfSome};
+ghost use Rattle.std.specs.Prelude.{◌≡◌, ◌≢◌, [], ◌∷◌, length, is_some, OnOk, OnErr, IfOk, IfSome};
 ghost use Rattle.tcap_invocation.specs.Invocations.{IsSound, entry_at, passing};
 ghost use Rattle.tcap_invocation.specs.Stage.{is_waiting};
 ghost use Rattle.tcap_invocation.specs.Closing.{given_up_at, after_give_up, after_free_wait, ended_of, ended_at, first_ended_at, after_close_one, after_close};

@@ -1,6 +1,6 @@
 //! Lapses of few invocations: the first that is due, and all that are due at once.
 
-ghost use Rattle.std.specs.Prelude.{◌≡◌, ◌≢◌, [], filter, IfOk, OnOk, OnErr, Some};
+ghost use Rattle.std.specs.Prelude.{◌≡◌, ◌≢◌, [], filter, IfOk, OnOk, OnErr};
 ghost use Rattle.tcap_invocation.specs.Invocations.{AreInOrder};
 ghost use Rattle.tcap_invocation.specs.Lapses.{due_at, told_at, first_due_at, stays};
 

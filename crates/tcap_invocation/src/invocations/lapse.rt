@@ -2,7 +2,7 @@
 
 // Hints to inline: each step of an engine runs through it; docs/PERF.md says what the whole of it inlined gains.
 
-ghost use Rattle.std.specs.Prelude.{◌≡◌, ◌≢◌, ◌<◌, [], ◌∷◌, OnOk, OnErr, IfOk, IfSome};
+ghost use Rattle.std.specs.Prelude.{◌≡◌, ◌≢◌, [], ◌∷◌, OnOk, OnErr, IfOk, IfSome};
 ghost use Rattle.tcap_invocation.specs.Invocations.{IsSound};
 ghost use Rattle.tcap_invocation.specs.Lapses.{told_at, first_due_at, lapse_of, lapse_at, after_lapse, after_lapse_one, after_free_due};
 

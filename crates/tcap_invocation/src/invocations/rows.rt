@@ -1,6 +1,6 @@
 //! The invocations of a dialogue, by rising number: few one after the other, many by their identifiers.
 
-ghost use Rattle.std.specs.Prelude.{◌≡◌, ◌↔◌, ◌≤◌, ◌*◌, ◌≢◌, ◌++◌, ◌∷◌, [], None, Some, IsTrue, length, min, filter, option_copied, IfOk, OnOk, OnErr};
+ghost use Rattle.std.specs.Prelude.{◌≡◌, ◌↔◌, ◌≤◌, ◌*◌, ◌≢◌, ◌++◌, ◌∷◌, [], Some, IsTrue, length, min, filter, option_copied, IfOk, OnOk, OnErr};
 ghost use Rattle.tcap_invocation.specs.declared.stage.Stage.TheVariants.{Waiting};
 ghost use Rattle.tcap_invocation.specs.Closing.{ended_at, first_ended_at};
 ghost use Rattle.tcap_invocation.specs.Expiries.{first_expiry_at, rows_after};

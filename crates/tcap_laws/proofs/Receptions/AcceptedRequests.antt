@@ -1,24 +1,21 @@
 -- What is known of a request that was accepted, and of one that made an invocation.
-use Rattle.std.proofs.Common.{◌≡◌, ℕ, ℤ, ◌<◌, Bool, true, false, not, nat_lt, nat_le, ◌&&◌, List, ◌∷◌, Option, Some, None, refl, sym, ap, ◌∙◌, subst}
-use Rattle.std.proofs.lemmas.Bool.{and_parts, ltb-true}
+use Rattle.std.proofs.Common.{◌≡◌, ℕ, ℤ, Bool, true, ◌&&◌, List, Option, Some, None, refl, ap, subst}
+use Rattle.std.proofs.lemmas.Bool.{and_parts}
 use Rattle.tcap_component.specs.Component.{CodeParts}
-use Rattle.tcap_invocation.specs.Stage.{moment_limit}
 use Rattle.tcap_model.specs.Words.Answer.{Answer, is_accepted}
 use Rattle.tcap_model.specs.Replies.Due.{due_by, situation_of, standing_of}
 use Rattle.tcap_model.specs.Words.Event.{Event}
 use Rattle.tcap_model.specs.Words.Fault.{Fault}
-use Rattle.tcap_model.specs.Histories.History.{History, Start}
+use Rattle.tcap_model.specs.Histories.History.{History}
 use Rattle.tcap_model.specs.Words.InRange.{InRange, are_octets_if_any, is_code, is_identifier, is_identifier_if_any, is_long, is_request, is_short}
 use Rattle.tcap_model.specs.Invocations.Invocation.{Invocation, invoked_by, invoked_of, invoked_under}
-use Rattle.tcap_model.specs.Replies.Legal.{AreReplies}
 use Rattle.tcap_model.specs.Histories.Life.{Life, life}
 use Rattle.tcap_model.specs.Invocations.Numbers.{number_of}
-use Rattle.tcap_model.specs.Histories.Pair.{Pair, Past}
-use Rattle.tcap_model.specs.Procedures.Refusals.{due_on, faults_of, holds}
+use Rattle.tcap_model.specs.Histories.Pair.{Pair}
+use Rattle.tcap_model.specs.Procedures.Refusals.{due_on}
 use Rattle.tcap_model.specs.Replies.Reply.{reply, request_answer}
 use Rattle.tcap_model.specs.Words.Request.{Request, ComponentRequest}
 use Rattle.tcap_model.specs.Words.State.{State}
-use Rattle.tcap_laws.proofs.Receptions.NothingDue.{first_that-none}
 
 -- ---- accepted
 
@@ -122,20 +119,3 @@ made-identifier pair i within e =
     (is_identifier_if_any made.linked) timed.0 in
     let parameter = and_parts (is_identifier i.id && is_code made.code) (are_octets_if_any made.parameter) linked.0 in
     (and_parts (is_identifier i.id) (is_code made.code) parameter.0).0
-
-not-bad : (a b : Bool) → not (a && b) ≡ false → a ≡ true
-not-bad true b e = refl
-not-bad false b e = absurd cc
-
-pub made-timeout : (start : Start) (pair : Pair) (past : Past) (i : Invocation) → AreReplies start (pair ∷ past)
-    → invoked_by pair ≡ Some i → 0 < i.timeout
-made-timeout start pair past i legal e =
-    let h : History = record { start = start; pairs = past } in
-    let made : IsInvoke pair i = invoke-made pair i e in
-    let asked : Request = invoke_asked i made.code made.parameter made.linked in
-    let answered : Answer.number i.number ≡ reply h (Event.on_dialogue i.dialogue asked) =
-    sym made.answer ∙ (legal.1 ∙ ap (reply h) made.event) in
-    let a : IsAccepted h i.dialogue asked = accepted-request h i.dialogue asked (sym (ap is_accepted answered)) in
-    let none = first_that-none (holds (situation_of h i.dialogue (standing_of i.dialogue past a.state a.context) asked)
-    asked) (faults_of asked) a.faultless in
-    ltb-true 0 i.timeout (not-bad (nat_lt 0 i.timeout) (nat_le i.timeout moment_limit) none.1.0)

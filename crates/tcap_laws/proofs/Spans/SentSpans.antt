@@ -22,10 +22,6 @@ or-some : {X : Type 0} (x y : Option X) → is_some y ≡ true → is_some (opti
 or-some None y e = e
 or-some (Some z) y e = refl
 
-is_none-none : {X : Type 0} (x : Option X) → is_none x ≡ true → x ≡ None
-is_none-none None e = refl
-is_none-none (Some y) e = absurd cc
-
 -- ---- what was sent stays so
 
 found-mapped : (o : Option Noted) → is_some (option_map (λ (noted : Noted). noted.clock) o) ≡ true → is_some o ≡ true

@@ -5,7 +5,7 @@ ghost use Rattle.std.specs.Result.{result_ok};
 ghost use Rattle.ber_core.specs.ObjectIdentifier.{object_identifier_limit};
 ghost use Rattle.ber_core.specs.Results.{Gives};
 ghost use Rattle.tcap_pdu.specs.DialogueViews.{pdu_value};
-ghost use Rattle.tcap_pdu.specs.DialogueWritten.{portion_limit, written_dialogue, IsWritable};
+ghost use Rattle.tcap_pdu.specs.DialogueWritten.{written_dialogue, IsWritable};
 ghost use Rattle.tcap_pdu.specs.DialogueDue.{context_of, is_context, is_information_good, content_fault, length_at, information_length, opening_length, answer_length, held_length, external_length, portion_length};
 
 use crate::dialogue_pdu::DialoguePdu;

@@ -2,7 +2,7 @@
 
 ghost use Rattle.std.specs.Prelude.{◌≡◌, ◌==◌, ℕ, [], ◌∷◌, false, Some, IfSome, option_map};
 ghost use Rattle.ber_core.specs.Way.{IsInside, IsInsideIfAny, IsOnWay, GoesOn};
-ghost use Rattle.tcap_pdu.specs.DialoguePartsReading.{one_octet, tag_and, one_at, is_external, is_information, information_at, version_of, version_at, context_at, opening, opening_at, number_at, source_of, diagnostic_at};
+ghost use Rattle.tcap_pdu.specs.DialoguePartsReading.{one_octet, tag_and, one_at, is_information, information_at, version_of, version_at, context_at, opening, opening_at, number_at, source_of, diagnostic_at};
 ghost use Rattle.tcap_pdu.specs.DialogueViews.{source};
 
 use crate::dialogue_pdu::Diagnostic;

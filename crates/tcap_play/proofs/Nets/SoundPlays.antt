@@ -9,7 +9,7 @@ use Rattle.tcap_laws.proofs.CallerLemmas.{TellsOf, apart-by, two_ends}
 use Rattle.tcap_model.specs.Histories.Pair.{Pair, Past}
 use Rattle.tcap_model.specs.Replies.Legal.{IsLegal, Suits}
 use Rattle.tcap_model.specs.Replies.Reply.{reply}
-use Rattle.tcap_model.specs.Statements.Net.{Engine as Net, AreApart, IsCarried, IsCarriedTo, Trace, is_at, side}
+use Rattle.tcap_model.specs.Statements.Net.{Engine as Net, AreApart, IsCarried, IsCarriedTo, Trace, side}
 use Rattle.tcap_model.specs.Words.Address.{Address}
 use Rattle.tcap_model.specs.Words.Event.{Event}
 use Rattle.tcap_model.specs.Words.InRange.{InRange}
@@ -38,11 +38,6 @@ places-apart = apart-by at_whose play_places told
     told zero = (refl, tt)
     told (suc zero) = (refl, tt)
     told (suc (suc number)) = tt
-
--- each is at its own address
-is-place : (engine : Engine) → is_at play_places (number_of engine) (address_of engine) ≡ true
-is-place Engine.a = refl
-is-place Engine.b = refl
 
 -- ---- a play
 

@@ -189,7 +189,8 @@ fn keep_frame<A: Allocator + Copy>(
     len: MessageLength,
 ) -> Span
     requires measured { IsMeasured len (message frame.now) None }
-    requires room { HasRoom (vec_capacity octets.old) (vec_len octets.old) (length (written_frame (message frame.now))) }
+    requires room { HasRoom (vec_capacity octets.old) (vec_len octets.old)
+        (length (written_frame (message frame.now))) }
     ensures items { octets.new.items ≡ octets.old.items ++ written_frame (message frame.now) }
     ensures within { vec_len octets.new ≤ most_octets }
     ensures capacity { vec_capacity octets.old ≤ vec_capacity octets.new }

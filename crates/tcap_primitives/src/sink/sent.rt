@@ -3,7 +3,7 @@
 // Each is inlined into its caller. One without a dialogue PDU goes by `send_frame`: by `send`, which has all kinds in it,
 // the caller would grow beyond what the toolchain inlines: then a message took some 200 instructions more.
 
-ghost use Rattle.std.specs.Prelude.{◌≡◌, ◌+◌, ◌≤◌, ◌++◌, ◌∷◌, [], Option, length, None, OnOk, OnErr, ◌-◌, ◌<◌, map, vec_len, vec_capacity};
+ghost use Rattle.std.specs.Prelude.{◌≡◌, ◌+◌, ◌≤◌, ◌++◌, ◌∷◌, [], Option, length, None, OnOk, OnErr, ◌<◌, map, vec_len, vec_capacity};
 ghost use Rattle.ber_core.specs.Place.{Slice};
 ghost use Rattle.tcap_model.specs.Words.Output as model;
 ghost use Rattle.tcap_pdu.specs.FrameMeasured.{IsMeasured};

@@ -1,6 +1,5 @@
 //! The fields of each kind of event, read at the front of octets.
 
-ghost use Rattle.std.specs.Prelude.{◌≡◌};
 ghost use Rattle.ber_core.specs.Results.{Gives};
 ghost use Rattle.tcap_record.specs.Layout.{event_at};
 ghost use Rattle.tcap_record.specs.RecordViews.{kept_view};

@@ -1,13 +1,13 @@
 //! The parts of events, each read at the front of octets: its value and the octets behind it, or how many
 //! octets are left at the place where reading stops.
 
-ghost use Rattle.std.specs.Prelude.{◌≡◌, length, option_copied};
+ghost use Rattle.std.specs.Prelude.{option_copied};
 ghost use Rattle.std.specs.Option.{option_map};
 ghost use Rattle.ber_core.specs.Results.{Gives};
 ghost use Rattle.tcap_component.specs.Views.{body_parts, code_parts, problem_parts};
 ghost use Rattle.tcap_primitives.specs.RequestViews.{ending_view, reason_view};
 ghost use Rattle.tcap_record.specs.Fields.{listed, named_at, taken_at};
-ghost use Rattle.tcap_record.specs.Parts.{address_at, body_at, class_at, code_at, ending_at, form_of_flag, form_table, identifier_at, kind_at, long_at, octet_at, octet_string_at, optional_at, presence_table, problem_at, problem_code_at, reason_at, short_at};
+ghost use Rattle.tcap_record.specs.Parts.{address_at, body_at, class_at, code_at, ending_at, form_of_flag, form_table, identifier_at, kind_at, long_at, octet_at, octet_string_at, optional_at, presence_table, problem_at, reason_at, short_at};
 
 use tcap_address::Address;
 use tcap_component::{Body, Code, Kind, Problem};

@@ -1,6 +1,6 @@
 //! An event is accepted: it is counted, and what it sends and tells is marked with its number.
 
-ghost use Rattle.std.specs.Prelude.{◌≡◌, ◌<◌, ◌-◌, OnOk, OnErr, IsOk, length, Result};
+ghost use Rattle.std.specs.Prelude.{◌≡◌, ◌<◌, ◌-◌, OnOk, OnErr, length};
 ghost use Rattle.tcap_station.specs.Marks.{HasPlace, IsOrdered, marks_in, with_mark};
 ghost use Rattle.tcap_station.specs.Station.{following};
 

@@ -1,6 +1,6 @@
 //! The two outboxes: of the one in front the outputs are taken, while the one behind is filled.
 
-ghost use Rattle.std.specs.Prelude.{[], IfSome, ◌≡◌, ◌<◌, ◌+◌, ◌-◌, ◌++◌, drop, length, slice_get};
+ghost use Rattle.std.specs.Prelude.{[], IfSome, ◌≡◌, ◌<◌, ◌+◌, ◌++◌, drop, length, slice_get};
 ghost use Rattle.std.specs.Option.{option_map};
 ghost use Rattle.tcap_primitives.specs.KeptViews.{FitsKept, kept_view};
 ghost use Rattle.tcap_primitives.specs.OutboxViews.{output_ref_view};

@@ -1,6 +1,6 @@
 //! The requests of dialogue handling (Q.771, Dialogue handling).
 
-ghost use Rattle.std.specs.Prelude.{◌≡◌, ◌≢◌, ◌<◌, [], false, option_copied, IfErr, OnErr, OnOk};
+ghost use Rattle.std.specs.Prelude.{◌≡◌, ◌≢◌, [], false, option_copied, IfErr, OnErr, OnOk};
 ghost use Rattle.tcap_engine.specs.AnswerKinds.{AnswerKind, kind_of};
 ghost use Rattle.tcap_engine.specs.Running.{outputs_in};
 ghost use Rattle.tcap_model.specs.Table.EngineMove.{engine_move};

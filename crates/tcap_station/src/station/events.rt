@@ -1,6 +1,6 @@
 //! Events that are no request on a dialogue: bytes, moments, and dialogues that are created.
 
-ghost use Rattle.std.specs.Prelude.{◌≡◌, ◌≢◌, ◌<◌, ◌≤◌, [], IfErr, OnErr, OnOk, length};
+ghost use Rattle.std.specs.Prelude.{◌≡◌, ◌≢◌, ◌≤◌, [], IfErr, OnErr, OnOk, length};
 ghost use Rattle.tcap_engine.specs.HistoryForm.{StandsReceived};
 ghost use Rattle.tcap_engine.specs.Running.{outputs_in};
 ghost use Rattle.tcap_engine.specs.StepForm.{EngineReceives, birth_answer, since_answer};

@@ -1,7 +1,7 @@
 //! The calls of a dialogue that take no memory, at the values of a worked example.
 
 use refusing::Refusing;
-use std::alloc::{Allocator, Global};
+use std::alloc::Allocator;
 use std::test::Fail;
 use tcap_component::Code;
 use tcap_dialogue::{Address, BeginVerdict, Dialogue, Fault, judge_begin};

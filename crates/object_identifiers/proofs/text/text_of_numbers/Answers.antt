@@ -1,4 +1,4 @@
-use Rattle.std.proofs.Common.{sym, ◌∙◌, ap, ◌++◌, ◌≡◌, ◌∷◌, [], List, ℕ, ◌-◌, ◌*◌, append_assoc}
+use Rattle.std.proofs.Common.{sym, ◌∙◌, ap, ◌++◌, ◌≡◌, ◌∷◌, List, ℕ, ◌-◌, ◌*◌, append_assoc}
 use Rattle.std.specs.Fmt.{decimal}
 use Rattle.std.specs.List.{flat_map}
 use Rattle.object_identifiers.specs.Arcs.{tail_text}

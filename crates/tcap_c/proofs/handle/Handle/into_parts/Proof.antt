@@ -18,7 +18,7 @@ use denote.Signature.{type_at}
 use denote.Steps.{heard, nothing}
 use denote.Triple.Walked.{Stays, stay_dropped, walk_of, Goes-dropped}
 use Rattle.std.proofs.raw_atomic.Walks.{proved_at, leaves}
-use Rattle.std.proofs.BoxSteps.Form.{D, P, B, box_typed}
+use Rattle.std.proofs.BoxSteps.Form.{D, box_typed}
 use Rattle.std.proofs.BoxSteps.Form as box
 use Rattle.std.proofs.BoxSteps.Steps.{box_in}
 use Rattle.tcap_c.specs.contracts.handle.Handle.into_parts.{signature, ended, clauses}
