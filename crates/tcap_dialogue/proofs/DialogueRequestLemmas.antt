@@ -1,17 +1,12 @@
 -- The first due fault of a request of dialogue handling, and what it gives.
-use Rattle.std.proofs.Common.{◌≡◌, ◌∙◌, ℕ, Bool, true, false, cond, List, [], ◌∷◌, ◌++◌, Option, Some, None, Result, Ok, Err, inl, inr, refl, sym, ap, subst, length, is_some, nat_lt, ◌||◌, IsTrue}
+use Rattle.std.proofs.Common.{◌≡◌, ◌∙◌, Bool, true, false, cond, List, [], ◌∷◌, ◌++◌, Option, Some, None, Result, Ok, Err, refl, sym, ap}
 use Rattle.std.specs.Prelude.{IfOk, IfErr}
 use Rattle.tcap_dialogue.specs.RequestMessages.{early_faults}
-use Rattle.tcap_model.specs.Procedures.AbortRules.{sent_if_any}
 use Rattle.tcap_model.specs.Procedures.RequestMessage.{message_of}
 use Rattle.tcap_primitives.specs.declared.fault.Fault.{Fault as RequestFault}
 use Rattle.tcap_primitives.specs.declared.fault.Fault.TheVariants as too_long
 use Rattle.tcap_primitives.specs.FaultViews.{fault_view}
-use Rattle.tcap_dialogue.specs.RequestForm.{takes_memory}
-use Rattle.tcap_model.specs.Words.Address.{Address}
-use Rattle.tcap_model.specs.Words.Answer.{Answer}
 use Rattle.tcap_model.specs.Words.Fault.{Fault}
-use Rattle.tcap_model.specs.Words.Output.{Output}
 use Rattle.tcap_pdu.specs.FrameSpelling.{Message}
 use Rattle.tcap_model.specs.Procedures.Refusals.{Situation, due_on, first_that, holds, passes_message}
 use Rattle.tcap_model.specs.Words.Request.{DialogueRequest, Request}
@@ -64,10 +59,3 @@ module _ (s : Situation) (a : DialogueRequest) (none : None ≡ first_that (hold
       → IfErr r (λ f. (f ≡ too_long.TooLong) × (passes_message m ≡ true)) → IfErr r (λ f. due_on s (Request.dialogue a) ≡ Some (fault_view f))
   long-due (Ok v) m is h = tt
   long-due (Err f) m is h = late-due ∙ ap (λ (b : Bool). cond b (Some Fault.too_long) None) (ap passes_message (sym is) ∙ h.1) ∙ ap (λ (x : RequestFault). Some (fault_view x)) (sym h.0)
-
--- Where memory is refused, something would have been sent or told: there is a message, or an invocation is left.
-pub memory-told : (to : Address) (m : Option Message) (left : ℕ) (told : List Output) → left ≡ length told → IsTrue (is_some m || nat_lt 0 left)
-    → IsTrue (takes_memory (Answer.outputs (sent_if_any to m ++ told)))
-memory-told to None left [] many h = rw many at h
-memory-told to None left (o ∷ os) many h = refl
-memory-told to (Some v) left told many h = refl

@@ -1,5 +1,5 @@
 -- The first component that is left, where it was read and handled.
-use Rattle.std.proofs.Common.{◌≡◌, ℕ, ◌+◌, ◌≤◌, length, Option, Some, Ok, arith}
+use Rattle.std.proofs.Common.{◌≡◌, ℕ, ◌≤◌, length, Option, Some, Ok, arith}
 use Rattle.ber_core.specs.Place.{Slice, AtEnd}
 use Rattle.tcap_component.proofs.CallerLemmas.{components_of-next}
 use Rattle.tcap_component.specs.ComponentReading.{component_at}

@@ -7,6 +7,7 @@ pub mod OctetLemmas
 pub mod PlaceLemmas
 pub mod PortionNames
 pub mod RefusalLemmas
+pub mod RejectLemmas
 pub mod ResultLemmas
 pub mod SliceOctets
 pub mod SpareLemmas

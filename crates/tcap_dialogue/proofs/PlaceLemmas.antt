@@ -1,11 +1,10 @@
 -- The slices of what the components tell lie in place.
-use Rattle.std.proofs.Common.{◌≡◌, List, [], ◌∷◌, ◌++◌, Option, Some, Result, Ok, Err, refl, sym, ap, subst, map, ◌∙◌, append_assoc}
+use Rattle.std.proofs.Common.{◌≡◌, List, [], ◌∷◌, ◌++◌, Option, Result, Ok, Err, refl, sym, ap, subst, map, ◌∙◌, append_assoc}
 use Rattle.ber_core.specs.Place.{Slice, AtEnd}
 use Rattle.tcap_component.specs.declared.component.Component.{Component}
-use Rattle.tcap_component.specs.declared.components.Components.{Components}
 use Rattle.tcap_component.specs.declared.fault.ComponentFault.{ComponentFault}
 use Rattle.tcap_component.specs.ComponentReading.{components_of}
-use Rattle.tcap_component.specs.Place.{ItemInPlace, bytes_left, components_steps}
+use Rattle.tcap_component.specs.Place.{ItemInPlace}
 use Rattle.tcap_component.specs.Views.{item_view}
 use Rattle.tcap_model.specs.Procedures.ComponentHandling.{Item}
 use Rattle.tcap_primitives.specs.declared.output.Output.{Output}
@@ -23,11 +22,6 @@ left_behind portion bytes rest item left first ends = record {
   before = left.before ++ item_view item ∷ [];
   follows = left.follows ∙ ap (λ (is : List Item). left.before ++ is) first ∙ sym (append_assoc left.before (item_view item ∷ []) (components_of rest.now));
 }
-
--- One component less is left.
-pub left_step : (portion : Slice) (old new : Components) (item : Result Component ComponentFault) →
-    IsLeftOf (bytes_left old) portion → components_steps old (Some item) new → IsLeftOf (bytes_left new) portion
-left_step portion old new item left step = left_behind portion (bytes_left old) (bytes_left new) item left step.0 step.1.1
 
 -- The slices of the component that is read lie in place.
 pub component-lies : (portion : Slice) (dialogue : Option Slice) (bytes : Slice) (item : Result Component ComponentFault) (slices : Slices) →

@@ -6,6 +6,7 @@ pub mod FirstComponent
 pub mod HandledViews
 pub mod KeptOctets
 pub mod MessageLength
+pub mod RejectRoom
 pub mod RequestForm
 pub mod RequestMessages
 pub mod StepViews

@@ -1,5 +1,5 @@
 -- How long the message of a request would be.
-use Rattle.std.specs.Prelude.{◌≡◌, ℕ, List, length, Option, Some, None, Result, Ok, Err}
+use Rattle.std.specs.Prelude.{◌≡◌, ℕ, length, Option, Some, None, Result, Ok, Err}
 use Rattle.tcap_dialogue.specs.StepViews.{asked}
 use Rattle.tcap_model.specs.Procedures.Refusals.{due_on}
 use Rattle.tcap_model.specs.Procedures.RequestMessage.{message_of}

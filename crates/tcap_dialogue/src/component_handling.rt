@@ -2,7 +2,7 @@
 
 // Hints to inline have the reason that in_dialogue.rt gives.
 
-ghost use Rattle.std.specs.Prelude.{◌≡◌, ◌≤◌, Some, None};
+ghost use Rattle.std.specs.Prelude.{◌≡◌, ◌≤◌, Some};
 ghost use Rattle.tcap_component.specs.Views.{problem_parts};
 ghost use Rattle.tcap_dialogue.specs.HandledViews.{IsHandled, AreNone};
 ghost use Rattle.tcap_primitives.specs.OutputViews.{rejector};
@@ -10,10 +10,10 @@ ghost use Rattle.tcap_dialogue.specs.Verdicts.{unexpected as unexpected_told};
 ghost use Rattle.tcap_model.specs.Procedures.ComponentHandling.{rejecting as rejecting_told};
 ghost use Rattle.tcap_model.specs.Procedures.Problems.{remote_rejector};
 
+pub mod component_portion;
 pub mod failures;
 pub mod in_dialogue;
-pub mod message;
-pub mod unidirectional;
+pub mod in_unidirectional;
 
 use std::alloc::Allocator;
 use tcap_component::Problem;

@@ -9,7 +9,7 @@ pub(crate) mod messages;
 pub(crate) mod requests;
 pub(crate) mod spares;
 pub(crate) mod timers;
-pub(crate) mod unidirectional;
+pub(crate) mod unstructured;
 
 ghost use Rattle.std.specs.Prelude.{◌≡◌, ◌≤◌};
 ghost use Rattle.tcap_invocation.specs.Stage.{moment_limit};

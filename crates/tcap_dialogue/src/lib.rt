@@ -12,7 +12,7 @@ mod dialogue;
 pub use dialogue::requests::{Accepted, Asked};
 pub use dialogue::spares::Spares;
 pub use dialogue::timers::Timer;
-pub use dialogue::unidirectional::{take_uni, take_uni_into};
+pub use dialogue::unstructured::{take_uni, take_uni_into};
 pub use dialogue::{Dialogue, Step};
 pub use tcap_address::Address;
 pub use tcap_primitives::{

@@ -2,7 +2,7 @@
 
 // Hints to inline have the reason that in_dialogue.rt gives.
 
-ghost use Rattle.std.specs.Prelude.{◌≡◌, ◌+◌, ◌≤◌, Option, Some, None, option_copied, ◌<◌, Ok, Err};
+ghost use Rattle.std.specs.Prelude.{◌≡◌, ◌+◌, ◌≤◌, Some, None, option_copied, Ok, Err};
 ghost use Rattle.tcap_component.specs.Views.{problem_parts, code_parts, fault_parts};
 ghost use Rattle.tcap_component.specs.declared.component.Component.TheVariants as component;
 ghost use Rattle.tcap_dialogue.specs.HandledViews.{IsHandled, AreNone};

@@ -5,18 +5,18 @@
 // apart: with them the toolchain would inline none, 80 to 170 a step.
 
 ghost use Rattle.std.specs.Option.{option_map};
-ghost use Rattle.std.specs.Prelude.{◌≡◌, ◌+◌, ◌<◌, ◌≤◌, length, Some, None, Bool, true, false, Ok, Err, option_copied, ◌++◌, ◌∷◌, [], Option};
-ghost use Rattle.tcap_component.specs.Views.{body_parts, code_parts, component_parts};
+ghost use Rattle.std.specs.Prelude.{◌≡◌, ◌+◌, ◌<◌, ◌≤◌, length, Some, option_copied, ◌++◌, ◌∷◌, [], Option};
+ghost use Rattle.tcap_component.specs.Views.{body_parts, code_parts};
 ghost use Rattle.tcap_component.specs.declared.component.Component.TheVariants as component;
 ghost use Rattle.tcap_dialogue.specs.HandledViews.{IsHandled};
-ghost use Rattle.tcap_primitives.specs.IndicationViews.{body_octets, code_octets, component_octets, optional_octets, indicated, indicated_slices};
+ghost use Rattle.tcap_primitives.specs.IndicationViews.{body_octets, code_octets, optional_octets, indicated, indicated_slices};
 ghost use Rattle.tcap_primitives.specs.Slices.{AreOf, result_of, LieIn, LieInPlace};
 ghost use Rattle.tcap_dialogue.specs.FirstComponent.{IsFirstTaken};
 ghost use Rattle.tcap_dialogue.specs.Verdicts.{result_handled, result_judged};
 ghost use Rattle.tcap_invocation.specs.Answers.{after_received};
 ghost use Rattle.tcap_invocation.specs.Class.{return_result};
 ghost use Rattle.tcap_invocation.specs.Stage.{moment_limit};
-ghost use Rattle.tcap_model.specs.Procedures.ComponentHandling.{handled, subject_of, invoke_handled};
+ghost use Rattle.tcap_model.specs.Procedures.ComponentHandling.{invoke_handled};
 ghost use Rattle.tcap_model.specs.Table.Dialogue.{sent_by_rows};
 ghost use Rattle.ber_core.specs.Place.{Slice};
 ghost use Rattle.tcap_primitives.specs.declared.indication.Indication.TheVariants as indication;

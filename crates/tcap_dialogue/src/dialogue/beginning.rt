@@ -2,11 +2,11 @@
 
 // Hints to inline: each step of an engine runs through it; docs/PERF.md says what the whole of it inlined gains.
 
-ghost use Rattle.std.specs.Prelude.{◌≡◌, ℕ, ◌+◌, ◌*◌, ◌≤◌, None, Option, Some, true, false, option_copied, IfOk, IfSome, OnOk, OnErr};
+ghost use Rattle.std.specs.Prelude.{◌≡◌, ℕ, ◌≤◌, Option, true, false, option_copied, IfOk, IfSome, OnOk, OnErr};
 ghost use Rattle.ber_core.specs.ObjectIdentifier.{IsObjectIdentifier};
 ghost use Rattle.ber_core.specs.Place.{Slice};
 ghost use Rattle.tcap_dialogue.specs.Beginning.{begun, begun_from};
-ghost use Rattle.tcap_reception.specs.PortionParts.{Given, GivenIn, context_of_portion, info_of_portion, context_slice};
+ghost use Rattle.tcap_reception.specs.PortionParts.{GivenIn, context_of_portion, info_of_portion, context_slice};
 ghost use Rattle.tcap_primitives.specs.Slices.{AllInPlace, PartsLieIn, LieInPlace};
 ghost use Rattle.tcap_dialogue.specs.StepViews.{StepsTo, at_clock, outcome};
 ghost use Rattle.tcap_invocation.specs.Stage.{moment_limit};
@@ -16,7 +16,7 @@ ghost use Rattle.tcap_model.specs.Table.TableMove.{born};
 use super::Dialogue;
 use super::kept_address::keep_names;
 use super::spares::Spares;
-use crate::component_handling::message::{handle_components, reserve_message};
+use crate::component_handling::component_portion::{handle_components, reserve_message};
 use ber_core::OutOfMemory;
 use std::alloc::Allocator;
 use tcap_address::Address;
@@ -44,6 +44,7 @@ impl<A: Allocator + Copy> Dialogue<A> {
     #[inline(always)]
     fn begin_with<'m, K: SinkKind>(
         &mut self,
+        spares: &mut Spares<A>,
         from: &Address,
         otid: &TransId,
         context: Option<&'m [u8]>,
@@ -67,7 +68,7 @@ impl<A: Allocator + Copy> Dialogue<A> {
             context,
             info,
         };
-        reserve_message(&mut self.queue, &told, components, sink)?;
+        reserve_message(spares, &mut self.queue, &told, components, sink)?;
         let alloc = *self.queue.octets.allocator();
         keep_names(alloc, from, context, &mut self.kept, &mut self.context)?;
         sink.tell(told);
@@ -75,6 +76,7 @@ impl<A: Allocator + Copy> Dialogue<A> {
             self.identifier,
             clock,
             components,
+            spares,
             &mut self.invocations,
             &mut self.queue,
             sink,
@@ -113,7 +115,8 @@ impl<A: Allocator + Copy> Dialogue<A> {
     {
         let mut dialogue = Dialogue::fresh(alloc, identifier, reject_ms, idle_ms);
         let mut sink = Sink::vector(alloc);
-        dialogue.receive_begin(from, otid, aarq, components, clock, &mut sink)?;
+        let mut spares = Spares::new(alloc);
+        dialogue.receive_begin(&mut spares, from, otid, aarq, components, clock, &mut sink)?;
         Ok((dialogue, sink.into_vector()))
     }
 
@@ -125,6 +128,7 @@ impl<A: Allocator + Copy> Dialogue<A> {
     #[inline(always)]
     fn receive_begin<'m, K: SinkKind>(
         &mut self,
+        spares: &mut Spares<A>,
         from: &Address,
         otid: &TransId,
         aarq: Option<(&'m [u8], &'m [u8])>,
@@ -143,7 +147,7 @@ impl<A: Allocator + Copy> Dialogue<A> {
             → LieInPlace portion components.entry sink.old.slices → LieInPlace portion components.entry sink.new.slices }
     {
         let (context, info) = parts_of(aarq);
-        self.begin_with(from, otid, context, info, components, clock, sink)
+        self.begin_with(spares, from, otid, context, info, components, clock, sink)
     }
 
     /// The Begin that creates the dialogue, in which nothing has happened: what is told is appended to what a sink
@@ -172,10 +176,7 @@ impl<A: Allocator + Copy> Dialogue<A> {
         ensures place { (portion : Option Slice) → GivenIn 0x60 aarq.entry portion
             → LieInPlace portion components.entry sink.old.slices → LieInPlace portion components.entry sink.new.slices }
     {
-        if !components.is_empty() {
-            spares.lend_queue(&mut self.queue);
-        }
-        let begun = self.receive_begin(from, otid, aarq, components, clock, sink);
+        let begun = self.receive_begin(spares, from, otid, aarq, components, clock, sink);
         self.leave_queue(spares);
         begun
     }

@@ -2,7 +2,7 @@
 
 // Hints to inline: each step of an engine runs through it; docs/PERF.md says what the whole of it inlined gains.
 
-ghost use Rattle.std.specs.Prelude.{◌≡◌, ◌+◌, ◌≤◌, ◌++◌, Option, length, ◌<◌, true, option_copied, OnOk, OnErr};
+ghost use Rattle.std.specs.Prelude.{◌≡◌, ◌+◌, ◌≤◌, ◌++◌, Option, length, true, option_copied, OnOk, OnErr};
 ghost use Rattle.ber_core.specs.Place.{Slice};
 ghost use Rattle.tcap_invocation.specs.Closing.{ended_at};
 ghost use Rattle.tcap_model.specs.Table.TableMove.{ended_told, ended_by, walked_in};
@@ -13,7 +13,7 @@ ghost use Rattle.tcap_model.specs.Procedures.PortionRules.PortionVerdict.{normal
 ghost use Rattle.tcap_model.specs.Procedures.PortionRules.{portion_verdict};
 
 use super::Dialogue;
-use crate::component_handling::message::{handle_in_end, room_for};
+use crate::component_handling::component_portion::{handle_in_end, room_for};
 use ber_core::OutOfMemory;
 use std::alloc::Allocator;
 use tcap_invocation::Invocations;

@@ -2,7 +2,7 @@
 
 // Its calls are inlined: apart they moved the address twice more, 60 instructions a turn of `register`.
 
-ghost use Rattle.std.specs.Prelude.{◌≡◌, ◌≤◌, ◌<◌, ◌↔◌, [], IfOk, IsTrue, OnOk, OnErr, length, ◌+◌, Option, true, option_copied, None};
+ghost use Rattle.std.specs.Prelude.{◌≡◌, ◌≤◌, ◌<◌, ◌↔◌, [], IfOk, IsTrue, OnOk, OnErr, length, true, option_copied, None};
 ghost use Rattle.tcap_dialogue.specs.KeptOctets.{IsKept, kept_octets, most_in_place};
 ghost use Rattle.tcap_primitives.specs.ContextViews.{context_view};
 ghost use Rattle.tcap_model.specs.Procedures.Refusals.{can_name};
@@ -117,14 +117,6 @@ impl<A: Allocator + Copy> KeptAddress<A> {
         ensures { self.new ≡ address.now }
     {
         self.held = in_place(address.octets());
-    }
-
-    /// The address that is kept, for a message.
-    #[inline(always)]
-    pub(super) fn to_address(&self) -> Address
-        ensures { result ≡ self.now }
-    {
-        Address::new(self.octets()).unwrap()
     }
 }
 

@@ -2,11 +2,8 @@
 
 // Hints to inline: each step of an engine runs through it; docs/PERF.md says what the whole of it inlined gains.
 
-ghost use Rattle.std.specs.Prelude.{◌≡◌, ◌≤◌, ◌<◌, vec_len, vec_capacity, Option, false, length, unwrap_or, option_copied, IfOk, OnOk, OnErr};
+ghost use Rattle.std.specs.Prelude.{◌≡◌, ◌≤◌, ◌<◌, vec_len, vec_capacity, Option, length, unwrap_or, option_copied, IfOk, OnOk, OnErr};
 ghost use Rattle.ber_core.specs.Place.{Slice};
-ghost use Rattle.tcap_primitives.specs.OutputViews.{cause_view};
-ghost use Rattle.tcap_reception.specs.PortionViews.{portion_view, PortionIn};
-ghost use Rattle.tcap_primitives.specs.QueueViews.{queue_view};
 ghost use Rattle.tcap_primitives.specs.Slices.{AllInPlace, PartsLieIn, LieInPlace};
 ghost use Rattle.tcap_reception.specs.StateViews.{is_over, phase_view};
 ghost use Rattle.tcap_dialogue.specs.KeptOctets.{most_in_place};
@@ -16,29 +13,20 @@ ghost use Rattle.tcap_invocation.specs.Stage.{moment_limit};
 ghost use Rattle.tcap_model.specs.Procedures.PortionRules.{portion_verdict};
 ghost use Rattle.tcap_model.specs.Procedures.PortionRules.PortionVerdict.{normal};
 ghost use Rattle.tcap_model.specs.Table.TableMove.{DialogueEvent, Setting, continued_by, framed, table_move, walked_in};
-ghost use Rattle.tcap_model.specs.Words.State.{State, address_by, peer_by};
+ghost use Rattle.tcap_model.specs.Words.State.{address_by};
 ghost use Rattle.tcap_pdu.specs.FramePortions.{dialogue_slice, components_slice};
 ghost use Rattle.tcap_pdu.specs.FrameViews.{message};
 
 use super::kept_address::KeptAddress;
 use super::spares::Spares;
 use super::{Dialogue, Step};
-use crate::component_handling::message::{handle_components, reserve_message};
+use crate::component_handling::component_portion::{handle_components, reserve_message};
 use ber_core::OutOfMemory;
 use std::alloc::Allocator;
 use tcap_address::Address;
 use tcap_pdu::{Frame, TransId};
 use tcap_primitives::{Indication, Sink, SinkKind, Why};
 use tcap_reception::{After, Phase, PortionVerdict, judge_portion};
-
-/// Whether Rejects may answer components of a message: it is a Continue that has some.
-#[inline(always)]
-fn has_components(frame: &Frame<'_>) -> bool {
-    match frame {
-        Frame::Continue { components, .. } => !components.is_empty(),
-        Frame::Uni { .. } | Frame::Begin { .. } | Frame::End { .. } | Frame::Abort { .. } => false,
-    }
-}
 
 /// The sender of a Continue to a dialogue in Sent is kept; later ones are not (our own).
 #[inline(always)]
@@ -64,6 +52,7 @@ impl<A: Allocator + Copy> Dialogue<A> {
     #[inline(always)]
     fn continue_normal<'m, K: SinkKind>(
         &mut self,
+        spares: &mut Spares<A>,
         from: &Address,
         origin: &TransId,
         context: Option<&'m [u8]>,
@@ -87,7 +76,7 @@ impl<A: Allocator + Copy> Dialogue<A> {
             context,
             info,
         };
-        reserve_message(&mut self.queue, &told, components, sink)?;
+        reserve_message(spares, &mut self.queue, &told, components, sink)?;
         let alloc = *self.queue.octets.allocator();
         keep_sender(alloc, &self.phase, &mut self.kept, from)?;
         sink.tell(told);
@@ -95,6 +84,7 @@ impl<A: Allocator + Copy> Dialogue<A> {
             self.identifier,
             clock,
             components,
+            spares,
             &mut self.invocations,
             &mut self.queue,
             sink,
@@ -107,6 +97,7 @@ impl<A: Allocator + Copy> Dialogue<A> {
     #[inline(always)]
     fn receive_continue<'m, K: SinkKind>(
         &mut self,
+        spares: &mut Spares<A>,
         from: &Address,
         origin: &TransId,
         dialogue: Option<&'m [u8]>,
@@ -127,7 +118,7 @@ impl<A: Allocator + Copy> Dialogue<A> {
     {
         match judge_portion(&self.phase, &self.context, dialogue) {
             PortionVerdict::Normal { context, info } => {
-                self.continue_normal(from, origin, context, info, components, clock, sink)
+                self.continue_normal(spares, from, origin, context, info, components, clock, sink)
             }
             PortionVerdict::Abnormal => {
                 self.abort_abnormal(from, origin, sink)?;
@@ -139,6 +130,7 @@ impl<A: Allocator + Copy> Dialogue<A> {
     /// `take_frame`, message by message.
     fn receive_message<'m, K: SinkKind>(
         &mut self,
+        spares: &mut Spares<A>,
         from: &Address,
         frame: &Frame<'m>,
         clock: u64,
@@ -160,7 +152,7 @@ impl<A: Allocator + Copy> Dialogue<A> {
                 dialogue,
                 components,
                 ..
-            } => self.receive_continue(from, otid, *dialogue, components, clock, sink),
+            } => self.receive_continue(spares, from, otid, *dialogue, components, clock, sink),
             Frame::End {
                 dialogue,
                 components,
@@ -200,10 +192,7 @@ impl<A: Allocator + Copy> Dialogue<A> {
             → LieInPlace (dialogue_slice frame.now) (unwrap_or (components_slice frame.now) other) sink.old.slices
             → LieInPlace (dialogue_slice frame.now) (unwrap_or (components_slice frame.now) other) sink.new.slices }
     {
-        if has_components(frame) {
-            spares.lend_queue(&mut self.queue);
-        }
-        let after = self.receive_message(from, frame, clock, sink);
+        let after = self.receive_message(spares, from, frame, clock, sink);
         self.leave_queue(spares);
         Ok(after?.is_over())
     }
@@ -230,8 +219,9 @@ impl<A: Allocator + Copy> Dialogue<A> {
         ensures place { (other : Slice) → IfOk result (λ s. AllInPlace
             (dialogue_slice frame.now) (unwrap_or (components_slice frame.now) other) s.outputs.items) }
     {
-        let mut sink = Sink::vector(*self.queue.octets.allocator());
-        let after = self.receive_message(from, frame, clock, &mut sink)?;
+        let alloc = *self.queue.octets.allocator();
+        let mut sink = Sink::vector(alloc);
+        let after = self.receive_message(&mut Spares::new(alloc), from, frame, clock, &mut sink)?;
         let outputs = sink.into_vector();
         Ok(Step {
             outputs,

@@ -15,7 +15,7 @@ pub(crate) mod results;
 pub(crate) mod sending;
 pub(crate) mod unidirectional;
 
-ghost use Rattle.std.specs.Prelude.{◌≡◌, ◌≤◌, List, false};
+ghost use Rattle.std.specs.Prelude.{◌≡◌, ◌≤◌, List};
 ghost use Rattle.tcap_dialogue.specs.AskViews.{Asks, AsksInto, IsNumbered, accepted_outcome, asked_view};
 ghost use Rattle.tcap_dialogue.specs.RequestForm.{Answers, StepsInto, numbered, queued_done, gave_up};
 ghost use Rattle.tcap_model.specs.Words.Output as told;

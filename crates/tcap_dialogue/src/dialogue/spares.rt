@@ -1,6 +1,7 @@
 //! The memory that dialogues leave to others, and how one leaves its own.
 
-ghost use Rattle.std.specs.Prelude.{◌≡◌, ◌<◌, ◌≤◌, [], true, vec_len, vec_capacity};
+ghost use Rattle.std.specs.Prelude.{◌≡◌, ◌<◌, ◌≤◌, ◌↔◌, [], ℕ, true, IsTrue, vec_len, vec_capacity};
+ghost use Rattle.tcap_dialogue.specs.RejectRoom.{FindRejectRoom, HasRejectRoom, IsBare};
 ghost use Rattle.tcap_invocation.specs.Invocations.{AllBelow};
 ghost use Rattle.tcap_invocation.specs.Stage.{moment_limit};
 ghost use Rattle.tcap_primitives.specs.QueueViews.{queue_view};
@@ -8,6 +9,7 @@ ghost use Rattle.tcap_primitives.specs.QueueViews.{queue_view};
 use super::Dialogue;
 use std::alloc::{Allocator, Global};
 use std::mem;
+use tcap_component::MAX_REJECT;
 use tcap_invocation::Invocations;
 use tcap_primitives::Queue;
 
@@ -46,12 +48,27 @@ impl<A: Allocator + Copy> Spares<A> {
         }
     }
 
+    /// Whether a queue holds nothing, and there is memory to be lent to it that has room for so many Rejects.
+    #[inline(always)]
+    pub(crate) fn can_lend(&self, queue: &Queue<A>, count: usize) -> bool
+        ensures { result ≡ true → FindRejectRoom self.now queue.now count }
+    {
+        if !is_bare(queue) {
+            return false;
+        }
+        let Some(last) = self.queues.last() else {
+            return false;
+        };
+        count.saturating_mul(MAX_REJECT) <= last.octets.capacity() && count <= last.parts.capacity()
+    }
+
     /// Lends the memory that another queue left to one that has none. It takes no memory.
     #[inline(always)]
     pub(crate) fn lend_queue(&mut self, queue: &mut Queue<A>)
-        ensures { queue_view queue.new ≡ queue_view queue.old }
+        ensures same { queue_view queue.new ≡ queue_view queue.old }
+        ensures room { (count : ℕ) → FindRejectRoom self.old queue.old count → HasRejectRoom queue.new count }
     {
-        if queue.octets.capacity() > 0 || !queue.parts.is_empty() {
+        if !is_bare(queue) {
             return;
         }
         if let Some(found) = self.queues.pop() {
@@ -132,6 +149,14 @@ impl<A: Allocator + Copy> Spares<A> {
 // It is rare, and kept out of what each request runs through.
 #[inline(never)]
 fn give_back<A: Allocator + Copy>(_queue: Queue<A>) {}
+
+/// Whether a queue has neither components nor memory for their octets.
+#[inline(always)]
+fn is_bare<A: Allocator + Copy>(queue: &Queue<A>) -> bool
+    ensures { IsTrue result ↔ IsBare queue.now }
+{
+    queue.octets.capacity() == 0 && queue.parts.is_empty()
+}
 
 /// Whether a queue is none that is large.
 #[inline(always)]

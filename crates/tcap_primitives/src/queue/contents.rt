@@ -108,7 +108,11 @@ impl<A: Allocator + Copy> Queue<A> {
     /// Takes everything out; the room stays.
     #[inline(always)]
     pub fn clear(&mut self)
-        ensures { queue_view self.new ≡ [] }
+        ensures queue { queue_view self.new ≡ [] }
+        ensures octets { (vec_len self.new.octets ≡ 0)
+            × (vec_capacity self.new.octets ≡ vec_capacity self.old.octets) }
+        ensures parts { (vec_len self.new.parts ≡ 0)
+            × (vec_capacity self.new.parts ≡ vec_capacity self.old.parts) }
     {
         self.octets.clear();
         self.parts.clear();

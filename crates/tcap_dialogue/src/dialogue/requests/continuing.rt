@@ -16,7 +16,6 @@ ghost use Rattle.tcap_model.specs.Words.Request.{DialogueRequest, Request};
 ghost use Rattle.tcap_primitives.specs.FaultViews.{fault_view};
 ghost use Rattle.tcap_primitives.specs.RequestViews.{continue_view};
 ghost use Rattle.tcap_primitives.specs.SendingViews.{CanSend, sending_view};
-ghost use Rattle.tcap_reception.specs.StateViews.{phase_view};
 
 use super::sending::{
     frame_length, gives_any, is_name_good, send, send_frame, within_limit_if_any,

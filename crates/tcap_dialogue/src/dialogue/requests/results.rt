@@ -16,7 +16,6 @@ ghost use Rattle.tcap_model.specs.Words.Request.{Request};
 ghost use Rattle.tcap_model.specs.Words.Request.ComponentRequest.{error_back, result_last, result_more, u_reject};
 ghost use Rattle.tcap_primitives.specs.FaultViews.{fault_view};
 ghost use Rattle.tcap_primitives.specs.RequestViews.{error_view, last_view, more_view, reject_view};
-ghost use Rattle.tcap_reception.specs.StateViews.{phase_view};
 
 use crate::dialogue::Dialogue;
 use std::alloc::Allocator;

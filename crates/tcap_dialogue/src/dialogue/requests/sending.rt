@@ -21,7 +21,6 @@ ghost use Rattle.tcap_pdu.specs.FrameSpelling.{Message};
 ghost use Rattle.tcap_pdu.specs.FrameViews.{message};
 ghost use Rattle.tcap_primitives.specs.SendingViews.{CanCarry, IsGood, portion_view, sending_view};
 ghost use Rattle.tcap_primitives.specs.declared.fault.Fault.TheVariants as fault;
-ghost use Rattle.tcap_reception.specs.StateViews.{phase_view};
 
 use crate::dialogue::Dialogue;
 use ber_core::{OutOfMemory, is_oid};

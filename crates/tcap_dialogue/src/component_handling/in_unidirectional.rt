@@ -1,6 +1,6 @@
 //! One component of a Unidirectional: no invocation is Sent there, and no Reject goes out.
 
-ghost use Rattle.std.specs.Prelude.{◌≡◌, ◌+◌, ◌≤◌, ◌<◌, length, Some, None, Ok, option_copied};
+ghost use Rattle.std.specs.Prelude.{◌≡◌, ◌+◌, ◌≤◌, ◌<◌, length, None, Ok, option_copied};
 ghost use Rattle.tcap_component.specs.Views.{code_parts, component_parts, problem_parts};
 ghost use Rattle.tcap_component.specs.declared.component.Component.TheVariants as component;
 ghost use Rattle.tcap_dialogue.specs.FirstComponent.{IsFirstTold};

@@ -1,4 +1,4 @@
-use Rattle.tcap_dialogue.proofs.dialogue.unidirectional.take_uni_into.Goals as goal
+use Rattle.tcap_dialogue.proofs.dialogue.unstructured.take_uni_into.Goals as goal
 
 pub returns-clause-place : goal.returns-clause-place
 returns-clause-place g c portion given before =

@@ -1,13 +1,14 @@
-//! The components of a message, one by one.
+//! The component portion of a message: its components, one by one, and room for what they come to.
 
 // Hints to inline: each step of an engine runs through it; docs/PERF.md says what the whole of it inlined gains.
 
 ghost use Rattle.std.specs.Option.{option_map};
-ghost use Rattle.std.specs.Prelude.{◌≡◌, ◌+◌, ◌*◌, ◌≤◌, ◌++◌, ◌⊎◌, true, Option, IfSome, OnOk, length, vec_len, vec_capacity};
+ghost use Rattle.std.specs.Prelude.{◌≡◌, ◌+◌, ◌≤◌, ◌++◌, ◌⊎◌, ℕ, true, Option, Some, IfSome, OnOk, length};
 ghost use Rattle.ber_core.specs.ListReading.{items_of};
 ghost use Rattle.ber_core.specs.Place.{Slice};
 ghost use Rattle.tcap_component.specs.ComponentReading.{components_of};
 ghost use Rattle.tcap_dialogue.specs.HandledViews.{reject_parts};
+ghost use Rattle.tcap_dialogue.specs.RejectRoom.{FindRejectRoom, HasRejectRoom};
 ghost use Rattle.tcap_primitives.specs.QueueViews.{queue_view};
 ghost use Rattle.tcap_dialogue.specs.Walking.{done_from, told_from, with_reject};
 ghost use Rattle.tcap_invocation.specs.Closing.{ended_at};
@@ -18,7 +19,8 @@ ghost use Rattle.tcap_primitives.specs.IndicationViews.{indicated_octets};
 
 use crate::component_handling::Reject;
 use crate::component_handling::in_dialogue::{Left, take_first};
-use crate::component_handling::unidirectional::tell_first;
+use crate::component_handling::in_unidirectional::tell_first;
+use crate::dialogue::spares::Spares;
 use ber_core::{OutOfMemory, take_short};
 use std::alloc::{AllocError, Allocator};
 use tcap_component::{Components, MAX_REJECT};
@@ -74,42 +76,42 @@ fn count_items(components: &[u8]) -> usize
 }
 
 /// Makes room for the Rejects that answer the components of a message, for which `room_for` gave `items`.
-// Mostly there is room, or there are no components: neither costs a call, which took 25 instructions a message.
+// Mostly there is room, or there are no components: neither costs a call, which took 25 instructions a message. Nor is
+// memory lent to the queue before a Reject comes: that took 70 to 80.
+#[tactic(auto, using(crate::proofs::RejectLemmas::fewer))]
 #[inline(always)]
 pub(crate) fn reserve_rejects<A: Allocator + Copy>(
+    spares: &mut Spares<A>,
     queue: &mut Queue<A>,
     components: &[u8],
     items: usize,
 ) -> Result<(), AllocError>
     requires { length (components_of components.now) ≤ items }
     ensures same { queue_view queue.new ≡ queue_view queue.old }
-    ensures octets { OnOk result (vec_len queue.new.octets + 8 * length (components_of components.now)
-        ≤ vec_capacity queue.new.octets) }
-    ensures parts { OnOk result (vec_len queue.new.parts + length (components_of components.now)
-        ≤ vec_capacity queue.new.parts) }
+    ensures room { OnOk result (FindRejectRoom spares.new queue.new (length (components_of components.now))) }
 {
-    if items == 0 || has_reject_room(queue, items) {
+    if items == 0 || spares.can_lend(queue, items) || has_reject_room(queue, items) {
         return Ok(());
     }
-    reserve_some(queue, components, items)
+    reserve_some(spares, queue, components, items)
 }
 
 /// `reserve_rejects`, where there are elements and not room for all of them.
 // There is mostly room for none. Where there is some, the components up to the first fault may need no more: to tell
 // that, a few are read once more.
+#[tactic(auto, using(crate::proofs::RejectLemmas::fewer))]
 #[inline(never)]
 fn reserve_some<A: Allocator + Copy>(
+    spares: &mut Spares<A>,
     queue: &mut Queue<A>,
     components: &[u8],
     items: usize,
 ) -> Result<(), AllocError>
     requires { length (components_of components.now) ≤ items }
     ensures same { queue_view queue.new ≡ queue_view queue.old }
-    ensures octets { OnOk result (vec_len queue.new.octets + 8 * length (components_of components.now)
-        ≤ vec_capacity queue.new.octets) }
-    ensures parts { OnOk result (vec_len queue.new.parts + length (components_of components.now)
-        ≤ vec_capacity queue.new.parts) }
+    ensures room { OnOk result (FindRejectRoom spares.new queue.new (length (components_of components.now))) }
 {
+    spares.lend_queue(queue);
     if items > FEW || is_full(queue) {
         return queue.reserve_rejects(items);
     }
@@ -125,8 +127,7 @@ fn is_full<A: Allocator + Copy>(queue: &Queue<A>) -> bool {
 /// Whether the queue has room for so many Rejects.
 #[inline(always)]
 fn has_reject_room<A: Allocator + Copy>(queue: &Queue<A>, count: usize) -> bool
-    ensures octets { result ≡ true → vec_len queue.now.octets + 8 * count ≤ vec_capacity queue.now.octets }
-    ensures parts { result ≡ true → vec_len queue.now.parts + count ≤ vec_capacity queue.now.parts }
+    ensures { result ≡ true → HasRejectRoom queue.now count }
 {
     queue.has_room(count.saturating_mul(MAX_REJECT))
         && count <= queue.parts.capacity() - queue.parts.len()
@@ -135,16 +136,14 @@ fn has_reject_room<A: Allocator + Copy>(queue: &Queue<A>, count: usize) -> bool
 /// Makes room for a message that is told so, with its components and the Rejects that answer them.
 #[inline(always)]
 pub(crate) fn reserve_message<'m, A: Allocator + Copy, K: SinkKind>(
+    spares: &mut Spares<A>,
     queue: &mut Queue<A>,
     told: &Indication<'m>,
     components: &[u8],
     sink: &mut Sink<'m, A, K>,
 ) -> Result<(), OutOfMemory>
     ensures same { queue_view queue.new ≡ queue_view queue.old }
-    ensures octets { OnOk result (vec_len queue.new.octets + 8 * length (components_of components.now)
-        ≤ vec_capacity queue.new.octets) }
-    ensures parts { OnOk result (vec_len queue.new.parts + length (components_of components.now)
-        ≤ vec_capacity queue.new.parts) }
+    ensures rejects { OnOk result (FindRejectRoom spares.new queue.new (length (components_of components.now))) }
     ensures still { sink.new.outputs ≡ sink.old.outputs }
     ensures places { OnOk result (1 + length (components_of components.now) ≤ sink.new.places) }
     ensures room { OnOk result (indicated_octets told.now + length components.now ≤ sink.new.octets) }
@@ -154,24 +153,39 @@ pub(crate) fn reserve_message<'m, A: Allocator + Copy, K: SinkKind>(
     let items = room_for(components);
     let octets = told.octet_count().saturating_add(components.len());
     sink.reserve(items.saturating_add(1), octets)?;
-    reserve_rejects(queue, components, items)?;
+    reserve_rejects(spares, queue, components, items)?;
     Ok(())
 }
 
 /// Queues a Reject, if there is one and it fits; there is room for it.
+#[tactic(auto, using(crate::proofs::RejectLemmas::fewer))]
 #[inline(always)]
-fn queue_reject<A: Allocator + Copy>(queue: &mut Queue<A>, reject: Option<Reject>)
-    requires octets { vec_len queue.old.octets + 8 ≤ vec_capacity queue.old.octets }
-    requires part { vec_len queue.old.parts + 1 ≤ vec_capacity queue.old.parts }
+fn queue_reject<A: Allocator + Copy>(
+    spares: &mut Spares<A>,
+    queue: &mut Queue<A>,
+    reject: Option<Reject>,
+)
+    requires { FindRejectRoom spares.old queue.old 1 }
     ensures queue { queue_view queue.new ≡ with_reject (queue_view queue.old) (option_map reject_parts reject) }
-    ensures octets_room { vec_capacity queue.old.octets ≤ vec_capacity queue.new.octets }
-    ensures octets_len { vec_len queue.new.octets ≤ vec_len queue.old.octets + 8 }
-    ensures parts_room { vec_capacity queue.old.parts ≤ vec_capacity queue.new.parts }
-    ensures parts_len { vec_len queue.new.parts ≤ vec_len queue.old.parts + 1 }
+    ensures room { (count : ℕ) → FindRejectRoom spares.old queue.old (count + 1)
+        → FindRejectRoom spares.new queue.new count }
 {
     if let Some(reject) = reject {
-        queue.append_reject(reject.id, reject.problem);
+        lend_and_queue(spares, queue, reject);
     }
+}
+
+/// Queues a Reject, if it fits, in a queue that is lent memory if it has none; there is room for it.
+// Rejects are rare, and stand apart.
+#[inline(never)]
+fn lend_and_queue<A: Allocator + Copy>(spares: &mut Spares<A>, queue: &mut Queue<A>, reject: Reject)
+    requires { FindRejectRoom spares.old queue.old 1 }
+    ensures queue { queue_view queue.new ≡ with_reject (queue_view queue.old) (Some (reject_parts reject)) }
+    ensures room { (count : ℕ) → FindRejectRoom spares.old queue.old (count + 1)
+        → FindRejectRoom spares.new queue.new count }
+{
+    spares.lend_queue(queue);
+    queue.append_reject(reject.id, reject.problem);
 }
 
 /// Takes the components of a message, tells them and queues the Rejects that answer them; there is room
@@ -182,6 +196,7 @@ pub(crate) fn handle_components<'m, A: Allocator + Copy, K: SinkKind>(
     dialogue: u32,
     clock: u64,
     components: &'m [u8],
+    spares: &mut Spares<A>,
     invocations: &mut Invocations<A>,
     queue: &mut Queue<A>,
     sink: &mut Sink<'m, A, K>,
@@ -189,9 +204,7 @@ pub(crate) fn handle_components<'m, A: Allocator + Copy, K: SinkKind>(
     requires clock { clock ≤ moment_limit }
     requires places { length (components_of components.now) ≤ sink.old.places }
     requires room { length components.now ≤ sink.old.octets }
-    requires octets { vec_len queue.old.octets + 8 * length (components_of components.now)
-        ≤ vec_capacity queue.old.octets }
-    requires parts { vec_len queue.old.parts + length (components_of components.now) ≤ vec_capacity queue.old.parts }
+    requires rejects { FindRejectRoom spares.old queue.old (length (components_of components.now)) }
     ensures done { record { told = sink.new.outputs; list = invocations.new; queue = queue_view queue.new }
         ≡ done_from dialogue clock (record { told = sink.old.outputs; list = invocations.old; queue = queue_view queue.old }) (components_of components.now) }
     ensures place { (portion : Option Slice) → LieInPlace portion components.entry sink.old.slices
@@ -200,7 +213,7 @@ pub(crate) fn handle_components<'m, A: Allocator + Copy, K: SinkKind>(
     let mut left = Left { octets: components };
     while !left.octets.is_empty() {
         let reject = take_first(invocations, dialogue, clock, &mut left, sink);
-        queue_reject(queue, reject);
+        queue_reject(spares, queue, reject);
     }
 }
 

@@ -3,7 +3,7 @@ use Rattle.ber_core.specs.Place.{Slice}
 use Rattle.tcap_component.specs.ComponentReading.{components_of}
 use Rattle.tcap_primitives.specs.Slices.{IsLeftOf, LieInPlace}
 use Rattle.tcap_model.specs.Procedures.ComponentHandling.{uni_told}
-use Rattle.tcap_dialogue.proofs.component_handling.message.handle_in_unidirectional.Given as goal
+use Rattle.tcap_dialogue.proofs.component_handling.component_portion.handle_in_unidirectional.Given as goal
 
 abbrev pub invariant-loop-left : goal.invariant-loop-left
 invariant-loop-left g l =

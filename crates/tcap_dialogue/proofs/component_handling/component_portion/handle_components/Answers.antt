@@ -7,8 +7,9 @@ use Rattle.tcap_dialogue.specs.HandledViews.{reject_parts}
 use Rattle.tcap_primitives.specs.QueueViews.{queue_view}
 use Rattle.tcap_dialogue.proofs.ItemLemmas.{some-component}
 use Rattle.tcap_dialogue.proofs.PlaceLemmas.{component-lies, left_behind, left_self}
+use Rattle.tcap_dialogue.proofs.RejectLemmas.{fewer}
 use Rattle.tcap_dialogue.proofs.WalkLemmas.{done_next}
-use Rattle.tcap_dialogue.proofs.component_handling.message.handle_components.Goals as goal
+use Rattle.tcap_dialogue.proofs.component_handling.component_portion.handle_components.Goals as goal
 
 pub loop-left-preserved : goal.loop-left-preserved
 loop-left-preserved g c =
@@ -23,11 +24,10 @@ loop-left-preserved g c =
     t.is_first refl h.is_answered h.is_told t.is_after c.queue_reject.ensures.queue in (
       done ∙ inv.0,
       omega (arith, long, inv.1, h.keeps_places),
-      search rules,
-      search rules,
-      left_behind _ left rest t.item inv.4 t.is_first t.ends,
-      λ portion before. h.is_in_place portion _ (component-lies _ portion left t.item h.slices inv.4 t.is_in_place h.are_parts) (inv.5 portion before),
-      omega (arith, inv.6, h.keeps_octets, t.within),
+      c.queue_reject.ensures.room (length (components_of rest.now)) (fewer _ _ _ _ (omega (arith, long)) inv.2),
+      left_behind _ left rest t.item inv.3 t.is_first t.ends,
+      λ portion before. h.is_in_place portion _ (component-lies _ portion left t.item h.slices inv.3 t.is_in_place h.are_parts) (inv.4 portion before),
+      omega (arith, inv.5, h.keeps_octets, t.within),
     )
 
 pub loop-left-init : goal.loop-left-init
@@ -44,3 +44,9 @@ returns-clause-done g c =
     let octets = c.loop-left.left.octets.now in
     let none : components_of octets ≡ [] = components_of-none octets (search rules) in
     search (rules, none)
+
+pub queue_reject-requires : goal.queue_reject-requires
+queue_reject-requires g c =
+    let octets = c.loop-left.left.octets.now in
+    let some : 0 < length (components_of octets) = some-component octets (search rules) in
+    fewer _ _ _ _ (omega (arith, some)) c.loop-left.invariant.2

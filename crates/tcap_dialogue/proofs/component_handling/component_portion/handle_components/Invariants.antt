@@ -1,18 +1,18 @@
-use Rattle.std.proofs.Common.{◌≡◌, ◌≤◌, ◌+◌, ◌*◌, Option, length, vec_len, vec_capacity}
+use Rattle.std.proofs.Common.{◌≡◌, ◌≤◌, Option, length}
 use Rattle.ber_core.specs.Place.{Slice}
 use Rattle.tcap_component.specs.ComponentReading.{components_of}
 use Rattle.tcap_primitives.specs.QueueViews.{queue_view}
 use Rattle.tcap_primitives.specs.Slices.{IsLeftOf, LieInPlace}
+use Rattle.tcap_dialogue.specs.RejectRoom.{FindRejectRoom}
 use Rattle.tcap_dialogue.specs.Walking.{done_from}
-use Rattle.tcap_dialogue.proofs.component_handling.message.handle_components.Given as goal
+use Rattle.tcap_dialogue.proofs.component_handling.component_portion.handle_components.Given as goal
 
 abbrev pub invariant-loop-left : goal.invariant-loop-left
 invariant-loop-left g l =
     (done_from l.dialogue l.clock (record { told = l.sink.outputs; list = l.invocations; queue = queue_view l.queue }) (components_of l.left.octets.now)
     ≡ done_from l.dialogue l.clock (record { told = l.initial.sink.outputs; list = l.initial.invocations; queue = queue_view l.initial.queue }) (components_of l.components))
     × (length (components_of l.left.octets.now) ≤ l.sink.places)
-    × (vec_len l.queue.octets + 8 * length (components_of l.left.octets.now) ≤ vec_capacity l.queue.octets)
-    × (vec_len l.queue.parts + length (components_of l.left.octets.now) ≤ vec_capacity l.queue.parts)
+    × FindRejectRoom l.spares l.queue (length (components_of l.left.octets.now))
     × IsLeftOf l.left.octets l.initial.left.octets
     × ((portion : Option Slice) → LieInPlace portion l.initial.left.octets l.initial.sink.slices → LieInPlace portion l.initial.left.octets l.sink.slices)
     × (length l.left.octets.now ≤ l.sink.octets)

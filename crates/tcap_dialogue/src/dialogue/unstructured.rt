@@ -11,7 +11,7 @@ ghost use Rattle.tcap_model.specs.Words.Output as model;
 ghost use Rattle.tcap_model.specs.Words.Output.{DialogueIndication};
 
 use super::beginning::parts_of;
-use crate::component_handling::message::{handle_in_unidirectional, room_for};
+use crate::component_handling::component_portion::{handle_in_unidirectional, room_for};
 use ber_core::OutOfMemory;
 use std::alloc::Allocator;
 use tcap_primitives::{Indication, Output, Sink, SinkKind};

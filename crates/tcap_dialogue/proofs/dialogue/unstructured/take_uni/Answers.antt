@@ -1,5 +1,5 @@
 use Rattle.tcap_dialogue.proofs.PlaceLemmas.{vector-in-place}
-use Rattle.tcap_dialogue.proofs.dialogue.unidirectional.take_uni.Goals as goal
+use Rattle.tcap_dialogue.proofs.dialogue.unstructured.take_uni.Goals as goal
 
 pub returns-clause-place : goal.returns-clause-place
 returns-clause-place g c portion given =

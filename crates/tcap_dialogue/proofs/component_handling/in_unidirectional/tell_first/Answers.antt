@@ -3,7 +3,7 @@ use Rattle.tcap_component.proofs.CallerLemmas.{components_of-next, components_of
 use Rattle.tcap_component.specs.ComponentReading.{component_at, components_by}
 use Rattle.tcap_component.specs.Views.{component_parts, fault_parts}
 use Rattle.tcap_dialogue.proofs.SliceOctets.{octets-within}
-use Rattle.tcap_dialogue.proofs.component_handling.unidirectional.tell_first.Goals as goal
+use Rattle.tcap_dialogue.proofs.component_handling.in_unidirectional.tell_first.Goals as goal
 
 pub tell-requires-clause-octets : goal.tell-requires-clause-octets
 tell-requires-clause-octets g c =

@@ -1,7 +1,7 @@
 use Rattle.std.proofs.Common.{◌≤◌, ◌+◌, ap, arith, tests, length}
 use Rattle.ber_core.proofs.CallerLemmas.{items_of-none}
 use Rattle.tcap_dialogue.proofs.ItemLemmas.{one-taken}
-use Rattle.tcap_dialogue.proofs.component_handling.message.short_count.Goals as goal
+use Rattle.tcap_dialogue.proofs.component_handling.component_portion.short_count.Goals as goal
 
 pub loop-rest-smaller : goal.loop-rest-smaller
 loop-rest-smaller c = (one-taken _ c.loop-rest.rest.now _ c.in_ok-behind.ensures.value).1

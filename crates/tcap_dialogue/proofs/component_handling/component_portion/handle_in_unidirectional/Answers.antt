@@ -5,7 +5,7 @@ use Rattle.tcap_component.specs.Views.{item_view}
 use Rattle.tcap_dialogue.proofs.ItemLemmas.{some-component}
 use Rattle.tcap_dialogue.proofs.PlaceLemmas.{component-lies, left_behind, left_self}
 use Rattle.tcap_dialogue.proofs.WalkLemmas.{alone_next}
-use Rattle.tcap_dialogue.proofs.component_handling.message.handle_in_unidirectional.Goals as goal
+use Rattle.tcap_dialogue.proofs.component_handling.component_portion.handle_in_unidirectional.Goals as goal
 
 pub loop-left-preserved : goal.loop-left-preserved
 loop-left-preserved g c =

@@ -4,7 +4,7 @@ use Rattle.tcap_component.specs.ComponentReading.{components_of}
 use Rattle.tcap_primitives.specs.Slices.{IsLeftOf, LieInPlace}
 use Rattle.tcap_dialogue.specs.Walking.{told_from}
 use Rattle.tcap_invocation.specs.Closing.{ended_at}
-use Rattle.tcap_dialogue.proofs.component_handling.message.handle_in_end.Given as goal
+use Rattle.tcap_dialogue.proofs.component_handling.component_portion.handle_in_end.Given as goal
 
 abbrev pub invariant-loop-left : goal.invariant-loop-left
 invariant-loop-left g l =

@@ -3,7 +3,7 @@ use Rattle.std.proofs.lemmas.Iterator.Consumers.{count_from_yields_List}
 use Rattle.tcap_component.specs.Views.{components_left}
 use Rattle.tcap_component.proofs.CallerLemmas.{components-yield}
 use Rattle.tcap_dialogue.proofs.ItemLemmas.{components-length}
-use Rattle.tcap_dialogue.proofs.component_handling.message.count_items.Goals as goal
+use Rattle.tcap_dialogue.proofs.component_handling.component_portion.count_items.Goals as goal
 
 pub count-requires-clause-fits : goal.count-requires-clause-fits
 count-requires-clause-fits c =
