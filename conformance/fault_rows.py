@@ -7,7 +7,8 @@ import re
 from elements import Fault, element_end, length_end, tag_end
 
 TESTS = os.path.join(os.path.dirname(os.path.abspath(__file__)), "../crates/explain_tests/src/tests")
-ROW = re.compile(r'\(\s*"([0-9a-f]*)",\s*"((?:[^"\\]|\\.)*)",?\s*\)')
+# A table of rows with an empty line between them: a message, on a line of its own, and what is said of it.
+ROWS = re.compile(r'&str = "(?:\\\n)?(.*?)";', re.S)
 TEXT = re.compile(r"(fault [^\n]*)\nplace (\d+) element (\d+): expected (.*?), found (.*)\n")
 
 # What was done to the messages of damaged.rt, in their order there.
@@ -136,9 +137,9 @@ def rows():
     found = []
     for group in ["damaged", "messages", "portions", "components", "encodings"]:
         with open(f"{TESTS}/{group}.rt", encoding="utf-8") as file:
-            parts = ROW.findall(file.read())
-        parts = [(octets, text.replace("\\n", "\n")) for octets, text in parts]
-        found += [Row(group, bytes.fromhex(octets), text) for octets, text in parts]
+            tables = ROWS.findall(file.read())
+        parts = [row.split("\n", 1) for table in tables for row in table.split("\n\n")]
+        found += [Row(group, bytes.fromhex(octets), f"{text}\n") for octets, text in parts]
     with open(f"{TESTS}/rows.rt", encoding="utf-8") as file:
         text = re.search(r'b"(fault too long.*?)"', file.read())[1].replace("\\n", "\n")
     found.append(Row("encodings", bytes(65536), text))
