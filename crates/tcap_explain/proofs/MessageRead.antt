@@ -1,5 +1,5 @@
 -- A message that was read as an element, and the verdict on it.
-use Rattle.std.proofs.Common.{◌≡◌, ◌≤◌, ◌∙◌, ℕ, ◌+◌, Bool, true, false, List, [], ◌∷◌, length, Option, Some, None, Result, Ok, Err, is_err, nat_lt, refl, sym, ap, arith, rules, inl, inr}
+use Rattle.std.proofs.Common.{◌≡◌, ◌≤◌, ◌∙◌, ℕ, ◌+◌, Bool, true, false, List, [], ◌∷◌, length, Option, Some, None, Result, Ok, Err, is_err, nat_lt, refl, sym, ap, arith, inl, inr}
 use Rattle.std.specs.List.{position_from}
 use Rattle.std.proofs.lemmas.List.{append-nil}
 use Rattle.ber_core.specs.Element.{IsElement, Parts, depth_limit}
@@ -10,7 +10,7 @@ use Rattle.ber_core.specs.Way.{inside, way_to}
 use Rattle.ber_core.proofs.CallerLemmas.{by_result, element_again}
 use Rattle.tcap_pdu.specs.FrameReading.{frame_at}
 use Rattle.tcap_pdu.specs.FrameLength.{dialogue_of}
-use Rattle.tcap_pdu.specs.FrameSpelling.{IsFrame, Message, message_tag}
+use Rattle.tcap_pdu.specs.FrameSpelling.{IsFrame, Message}
 use Rattle.tcap_pdu.proofs.FrameGrammar.{frame_again}
 use Rattle.tcap_component.specs.Component.{ComponentParts}
 use Rattle.tcap_component.specs.ComponentFault.{FaultParts}
@@ -43,12 +43,6 @@ way-within tag portion e h is = rw (inside-here tag e.whole [] e (element-alone 
 
 pub way-sum : (tag portion a b : ℕ) (e : Parts) → IsElement depth_limit e → is_tag tag e.tag ≡ true → a ≡ head_length e.whole → b ≡ (inside portion e.content).0 → a + b ≡ way_to (tag ∷ portion ∷ []) e.whole
 way-sum tag portion a b e h is p q = let sum = way-within tag portion e h is in omega (arith, p, q, sum)
-
-same-tag : (tag : ℕ) (octets : List ℕ) → octets ≡ tag ∷ [] → is_tag tag octets ≡ true
-same-tag tag octets is = rw is (search (rules, arith))
-
-pub tag-is : (e : Parts) (m : Message) → IsFrame m e → is_tag (message_tag m) e.tag ≡ true
-tag-is e m is = same-tag (message_tag m) e.tag is.is_tag
 
 pub explained-component : (bytes : List ℕ) (m : Message) (number : ℕ) → message_of bytes ≡ Ok m → message_verdict m ≡ Component number → explained_at bytes ≡ component_fault bytes m
 unfolding explained_at

@@ -84,10 +84,6 @@ pub further-further : (a b : ℕ) (o : Option Explained) → option_map (further
 further-further a b None = refl
 further-further a b (Some x) = ap some (same_unmet _ _ _ _ x.rule (omega arith) (omega arith))
 
-pub further-none : (o : Option Explained) → option_map (further 0) o ≡ o
-further-none None = refl
-further-none (Some x) = ap some (same_unmet _ _ _ _ x.rule (omega arith) (omega arith))
-
 -- ---- more fuel changes nothing
 
 same_inside : (w v : Walk) (head : ℕ) (i : Inside) (c : List ℕ) → ((l : Line) → w l c ≡ v l c) → inside_by w head i c ≡ inside_by v head i c

@@ -49,9 +49,6 @@ inside-behind tag bytes rest e is n =
 pub further-then : (a b : ℕ) (p : ℕ × List ℕ) → further a (further b p) ≡ further (a + b) p
 further-then a b p = ap (λ (n : ℕ). at_place n p.1) (omega arith)
 
-pub further-nothing : (p : ℕ × List ℕ) → further 0 p ≡ p
-further-nothing p = ap (λ (n : ℕ). at_place n p.1) (omega arith)
-
 -- by the head alone
 pub read-tag : (bytes rest : List ℕ) (e : Parts) (h : HeadRead) → element_at 32 bytes ≡ Ok (e, rest) → head_at bytes ≡ Ok h → e.tag ≡ h.0
 unfolding element_at

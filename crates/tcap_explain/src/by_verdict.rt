@@ -9,7 +9,7 @@ ghost use Rattle.tcap_words.specs.Verdict.{is_good, verdict_of, message_of};
 ghost use Rattle.tcap_explain.specs.Walk.{IsWithin, further, first_of, walk};
 ghost use Rattle.tcap_explain.specs.declared.line.Explained.{Explained};
 ghost use Rattle.tcap_explain.specs.FaultAt.{FaultAt};
-ghost use Rattle.tcap_explain.specs.Explaining.{external_line, portion_place, dialogue_fault, left_of, faulty_component, component_fault, in_message, explained_by, explained_at};
+ghost use Rattle.tcap_explain.specs.Explaining.{external_line, dialogue_fault, left_of, faulty_component, component_fault, in_message, explained_by, explained_at};
 
 use crate::encoding::likely_fault;
 use crate::line::{ComponentLine, Explained, Line, ListLine, MessageLine, PortionLine, Rule};

@@ -1,7 +1,6 @@
 //! Where the fault of an element's encoding is told.
 
-ghost use Rattle.std.specs.Prelude.{◌≡◌, ◌≤◌, ◌<◌, length, IfSome, Result, Err};
-ghost use Rattle.ber_core.specs.declared.fault.BerFault.{BerFault};
+ghost use Rattle.std.specs.Prelude.{◌≡◌, ◌≤◌, ◌<◌, length, IfSome, Err};
 ghost use Rattle.ber_core.specs.Element.{depth_limit};
 ghost use Rattle.ber_core.specs.ElementReading.{element_at};
 ghost use Rattle.tcap_explain.specs.EncodingPlace.{is_open, told_at};
@@ -25,25 +24,41 @@ fn is_front(octets: &[u8]) -> bool
     }
 }
 
-/// Passes over a head of the indefinite form, over an end, or over an element of the definite form, of which so many
-/// of the indefinite form are open: gives how many are open then, and what follows.
-fn pass_one(open: u8, rest: &[u8]) -> Option<(u8, &[u8])>
+/// What `pass_one` gives for an end, and for an element whose tag and length are an octet each: most are so, and are
+/// seen at once.
+fn pass_at_once(open: u8, rest: &[u8]) -> Option<(u8, &[u8])>
     ensures { IfSome result (λ r. length r.1.now < length rest.now) }
 {
     match rest {
-        [0, 0, after @ ..] if open > 0 => return Some((open - 1, after)),
-        // Most heads are a tag of one octet and a length of one, and are seen at once.
+        [0, 0, after @ ..] if open > 0 => Some((open - 1, after)),
         [tag, len, body @ ..]
             if *tag != 0 && *tag & 0x1f != 0x1f && *len < 0x80 && *len as usize <= body.len() => {
-            return Some((open, &body[*len as usize..]));
+            Some((open, &body[*len as usize..]))
         }
-        _ => {}
+        _ => None,
     }
+}
+
+/// What `pass_one` gives for any other head.
+fn pass_head(open: u8, rest: &[u8]) -> Option<(u8, &[u8])>
+    ensures { IfSome result (λ r. length r.1.now < length rest.now) }
+{
     let head = read_head(rest).ok()?;
     match head.length {
         Some(len) if len <= head.rest.len() => Some((open, &head.rest[len..])),
         None if open < MAX_DEPTH => Some((open + 1, head.rest)),
         _ => None,
+    }
+}
+
+/// Passes over a head of the indefinite form, over an end, or over an element of the definite form, of which so many
+/// of the indefinite form are open: gives how many are open then, and what follows.
+fn pass_one(open: u8, rest: &[u8]) -> Option<(u8, &[u8])>
+    ensures { IfSome result (λ r. length r.1.now < length rest.now) }
+{
+    match pass_at_once(open, rest) {
+        Some(passed) => Some(passed),
+        None => pass_head(open, rest),
     }
 }
 

@@ -2,7 +2,6 @@
 
 ghost use Rattle.std.specs.Prelude.{◌≡◌, ◌++◌, take, drop, OnOk, IfOk, string_bytes};
 ghost use Rattle.tcap_words.specs.Verdict.{is_good, verdict_of};
-ghost use Rattle.tcap_explain.specs.Explaining.{explained_at};
 ghost use Rattle.tcap_explain.specs.ExplainText.{named, position_words, octet_words, unit_words, count_words, contents_found, encoding_found, found_words, more_unit_words, more_words, is_in_end, tag_words, wanted_words, expectation_words, rule_words, explained_words, explained_lines, explain_text_of};
 
 use crate::by_verdict::explain;
