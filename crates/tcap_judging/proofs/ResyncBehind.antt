@@ -13,9 +13,6 @@ use Rattle.tcap_judging.specs.declared.fault.JudgingFault.TheVariants as fault
 use Rattle.tcap_judging.specs.declared.place.Place.{Place}
 use Rattle.tcap_judging.specs.declared.place.Place.TheVariants.{Reading, Within}
 
-pub stands-there : (place : Place) (octets : List ℕ) → StandsBehind place octets place octets
-stands-there place octets = record { tells = λ entries t. t; no_more = λ more. more }
-
 -- where a good message begins in the faulty one
 found-later : (first count left n : ℕ) (octets rest : List ℕ) (es : List Entry) → n ≡ passed_in true octets → rest ≡ drop n octets → n < left
     → Tells true (Within first (count + n) (left - n)) rest es → Tells true (Within first count left) octets es

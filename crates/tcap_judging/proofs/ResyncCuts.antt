@@ -120,9 +120,6 @@ place-next holds (o ∷ os) (suc n) low h =
     let next : suc n + 1 ≡ suc (n + 1) = omega arith in
     place-next holds os n (grind (arith, low)) h ∙ ap (λ m. 1 + first_place holds (drop m (o ∷ os))) (sym next)
 
-pub place-end : (holds : List ℕ → Bool) (octets : List ℕ) (n : ℕ) → length octets ≤ n → first_place holds (drop n octets) ≡ 0
-place-end holds octets n low = ap (first_place holds) (drop_of_length-le octets low)
-
 -- behind all octets nothing begins
 none-begins : may_begin true [] ≡ false
 none-begins = begins_not true [] refl

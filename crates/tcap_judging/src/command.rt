@@ -1,9 +1,6 @@
 //! A run of the command: its words, its standard input, what it writes, its status.
 
 ghost use Rattle.std.specs.Prelude.{◌≡◌, Bool, Result, map, MatchResult};
-ghost use Rattle.std.specs.Io.KnownBytes.{Appends};
-ghost use Rattle.tcap_words.specs.Writing.{IsFront};
-ghost use Rattle.tcap_judging.specs.CommandLine.{Ask};
 ghost use Rattle.tcap_judging.specs.NameViews.{names_view};
 ghost use Rattle.tcap_judging.specs.Command.{IsAnswered, IsUnanswered, Reads, Gave, status_of};
 

@@ -1,6 +1,6 @@
 //! What stands in a line: nothing, a message in hexadecimal that may have a name, or neither.
 
-ghost use Rattle.std.specs.Prelude.{◌≡◌, ◌<◌, ◌≤◌, length, option_map, Some, None};
+ghost use Rattle.std.specs.Prelude.{◌≡◌, ◌<◌, ◌≤◌, length, option_map, Some};
 ghost use Rattle.std.specs.List.{position_or_len};
 ghost use Rattle.hex.specs.Hex.{is_hex_digit};
 ghost use Rattle.tcap_judging.specs.LineParts.{is_blank, is_in_name, is_unnamed, is_foreign, is_dark, column, ends_in_colon, is_name, name_of, no_digits, hex_parts, named_parts, parts_within};

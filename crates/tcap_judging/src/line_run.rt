@@ -1,6 +1,6 @@
 //! A run over lines of hexadecimal.
 
-ghost use Rattle.std.specs.Prelude.{◌≡◌, ◌<◌, ◌≤◌, ◌+◌, ◌^◌, ◌&&◌, List, [], ℕ, length, MatchResult, OnOk};
+ghost use Rattle.std.specs.Prelude.{◌≡◌, ◌<◌, ◌≤◌, ◌+◌, ◌^◌, ◌&&◌, List, ℕ, length, MatchResult, OnOk};
 ghost use Rattle.std.specs.Io.KnownBytes.{Appends};
 ghost use Rattle.tcap_judging.specs.Entry.{LinesTell, line};
 ghost use Rattle.tcap_judging.specs.EntryText.{entry_text, is_good_entry};
@@ -34,8 +34,8 @@ fn write_piece<A: Allocator + Copy, W: Write>(
     writer: &mut W,
 ) -> Result<bool, JudgingFault>
     requires { begun.old.number + length piece.now < 2 ^ 64 }
-    ensures writes { (before : List ℕ) → IsUnderWay before begun.old.kept.items begun.old.is_long → MatchResult result
-        (λ good. Writes (form_view form.entry) naming before piece.now begun.old.number begun.new.kept.items
+    ensures writes { (before : List ℕ) → IsUnderWay before begun.old.kept.items begun.old.is_long
+        → MatchResult result (λ good. Writes (form_view form.entry) naming before piece.now begun.old.number begun.new.kept.items
         begun.new.is_long begun.new.number (W.contents writer.old) (W.contents writer.new) good)
         (λ fault. IsUntaken (form_view form.entry) naming before piece.now begun.old.number (W.contents writer.old)
         (W.contents writer.new) fault) }

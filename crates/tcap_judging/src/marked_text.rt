@@ -2,7 +2,7 @@
 
 ghost use Rattle.std.specs.Prelude.{◌≡◌, ◌++◌, OnOk, drop, string_bytes, take};
 ghost use Rattle.std.specs.List.{flat_map};
-ghost use Rattle.tcap_judging.specs.MarkedText.{shown_before, shown_from, shown_faulty, left_count, faulty_by, faulty_count, spaced, blanks, mark, marks, dots_before, blanks_before, dots_behind, shown_line, mark_line, marked_text};
+ghost use Rattle.tcap_judging.specs.MarkedText.{shown_before, shown_from, shown_faulty, left_count, faulty_count, spaced, blanks, mark, marks, dots_before, blanks_before, dots_behind, shown_line, mark_line, marked_text};
 
 use ber_core::{OutOfMemory, read_element};
 use std::alloc::Allocator;

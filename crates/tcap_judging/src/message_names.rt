@@ -1,9 +1,9 @@
 //! What a message names, in the line of a message.
 
-ghost use Rattle.std.specs.Prelude.{◌≡◌, ◌++◌, IfOk, OnOk, codes, map, option_copied, option_map, string_bytes};
+ghost use Rattle.std.specs.Prelude.{◌≡◌, ◌++◌, IfOk, OnOk, map, option_copied, option_map, string_bytes};
 ghost use Rattle.object_identifiers.specs.Contents.{dotted_at};
 ghost use Rattle.tcap_component.specs.Views.{code_parts, component_parts};
-ghost use Rattle.tcap_judging.specs.MessageItems.{context_in, item_of, items_in};
+ghost use Rattle.tcap_judging.specs.MessageItems.{item_of, items_in};
 ghost use Rattle.tcap_judging.specs.MessageNames.{context_words, dotted_words, name_behind, code_behind, item_words, components_words, names_words};
 ghost use Rattle.tcap_judging.specs.NameViews.{named_view};
 ghost use Rattle.tcap_judging.specs.Names.{name_for};

@@ -26,7 +26,8 @@ fn add_component<A: Allocator + Copy>(
     text: &mut String<A>,
     number: usize,
 ) -> Result<(), OutOfMemory>
-    ensures { OnOk result (string_bytes text.new ≡ string_bytes text.old ++ verdict_words (Verdict.Component number)) }
+    ensures { OnOk result (string_bytes text.new
+        ≡ string_bytes text.old ++ verdict_words (Verdict.Component number)) }
 {
     text.push_str("fault component ")?;
     add_decimal(text, number as u64)

@@ -1,6 +1,6 @@
 //! A stream that goes on behind its faults.
 
-ghost use Rattle.std.specs.Prelude.{◌≡◌, ◌<◌, ◌≤◌, ◌+◌, ◌*◌, ◌^◌, ◌++◌, Bool, Some, [], length, nat_lt, true, false, if◌then◌else◌, IfOk, string_bytes};
+ghost use Rattle.std.specs.Prelude.{◌≡◌, ◌<◌, ◌≤◌, ◌+◌, ◌*◌, ◌^◌, Bool, Some, [], length, nat_lt, true, false, if◌then◌else◌, IfOk, string_bytes};
 ghost use Rattle.ber_core.specs.Stream.{cut_into, cut_of};
 ghost use Rattle.tcap_judging.specs.Resync.{first_of, is_known, judged_of};
 ghost use Rattle.tcap_judging.specs.ResyncSteps.{AddsSteps, left_at, offset_at};
@@ -65,7 +65,8 @@ fn add_first<'a, A: Allocator + Copy>(
     ensures adds { (ends : Bool) → IfOk result (λ s. AddsSteps (form_view form.entry) ends (Place.Reading offset)
         octets.now s.place s.rest.now s.is_over (string_bytes text.old) (string_bytes text.new) s.good) }
     ensures within { IfOk result (λ s. offset_at s.place + length s.rest.now ≡ offset + length octets.now) }
-    ensures less { IfOk result (λ s. s.is_over ≡ false → left_at s.place (length s.rest.now) < 2 * length octets.now) }
+    ensures less { IfOk result (λ s. s.is_over ≡ false
+        → left_at s.place (length s.rest.now) < 2 * length octets.now) }
 {
     let message = judged.octets;
     let good = add_message(form, text, Label::Offset(offset), &judged)?;
@@ -87,7 +88,8 @@ fn add_first<'a, A: Allocator + Copy>(
 
 /// The verdict on octets that begin with no message.
 fn unread_verdict(octets: &[u8]) -> Verdict
-    ensures { result ≡ (if nat_lt message_limit (length octets.now) then Verdict.TooLong else Verdict.BadlyFormatted) }
+    ensures { result
+        ≡ (if nat_lt message_limit (length octets.now) then Verdict.TooLong else Verdict.BadlyFormatted) }
 {
     if octets.len() > MAX_LENGTH {
         Verdict::TooLong
@@ -109,7 +111,8 @@ fn add_none<'a, A: Allocator + Copy>(
     ensures adds { IfOk result (λ s. AddsSteps (form_view form.entry) ends (Place.Reading offset) octets.now s.place
         s.rest.now s.is_over (string_bytes text.old) (string_bytes text.new) s.good) }
     ensures within { IfOk result (λ s. offset_at s.place + length s.rest.now ≡ offset + length octets.now) }
-    ensures less { IfOk result (λ s. s.is_over ≡ false → left_at s.place (length s.rest.now) < 2 * length octets.now) }
+    ensures less { IfOk result (λ s. s.is_over ≡ false
+        → left_at s.place (length s.rest.now) < 2 * length octets.now) }
 {
     if !is_known(ends, octets, fault) {
         return Ok(Stepped {
@@ -142,7 +145,8 @@ fn read_on<'a, A: Allocator + Copy>(
     ensures adds { IfOk result (λ s. AddsSteps (form_view form.entry) ends (Place.Reading offset) octets.now s.place
         s.rest.now s.is_over (string_bytes text.old) (string_bytes text.new) s.good) }
     ensures within { IfOk result (λ s. offset_at s.place + length s.rest.now ≡ offset + length octets.now) }
-    ensures less { IfOk result (λ s. s.is_over ≡ false → left_at s.place (length s.rest.now) < 2 * length octets.now) }
+    ensures less { IfOk result (λ s. s.is_over ≡ false
+        → left_at s.place (length s.rest.now) < 2 * length octets.now) }
 {
     match first_element(octets) {
         Ok(element) => add_first(form, text, offset, judge_element(&element), octets),
@@ -236,8 +240,8 @@ fn next_step<'a, A: Allocator + Copy>(
     octets: &'a [u8],
 ) -> Result<Stepped<'a>, OutOfMemory>
     requires { offset_at place + length octets.now < 2 ^ 64 }
-    ensures adds { IfOk result (λ s. AddsSteps (form_view form.entry) ends place octets.now s.place s.rest.now s.is_over
-        (string_bytes text.old) (string_bytes text.new) s.good) }
+    ensures adds { IfOk result (λ s. AddsSteps (form_view form.entry) ends place octets.now s.place
+        s.rest.now s.is_over (string_bytes text.old) (string_bytes text.new) s.good) }
     ensures within { IfOk result (λ s. offset_at s.place + length s.rest.now ≡ offset_at place + length octets.now) }
     ensures less { IfOk result (λ s. s.is_over ≡ false → left_at s.place (length s.rest.now) < left_at place
         (length octets.now)) }

@@ -1,6 +1,6 @@
 //! The messages of a stream that comes in pieces.
 
-ghost use Rattle.std.specs.Prelude.{◌≡◌, ◌<◌, ◌≤◌, ◌+◌, ◌^◌, ◌++◌, List, [], ℕ, length, take, drop, IfOk, MatchResult, OnOk, None, string_bytes};
+ghost use Rattle.std.specs.Prelude.{◌≡◌, ◌<◌, ◌≤◌, ◌+◌, ◌^◌, ◌++◌, [], length, take, drop, IfOk, MatchResult, OnOk, string_bytes};
 ghost use Rattle.ber_core.specs.Element.{IsElement, depth_limit};
 ghost use Rattle.ber_core.specs.Stream.{cut_into, cut_of, rest_fault, with_message};
 ghost use Rattle.ber_core.specs.Views.{parts};

@@ -1,6 +1,6 @@
 //! A run over a stream of messages.
 
-ghost use Rattle.std.specs.Prelude.{◌≡◌, ◌<◌, ◌≤◌, ◌+◌, ◌^◌, ◌++◌, ◌&&◌, [], length, MatchResult, None, OnOk};
+ghost use Rattle.std.specs.Prelude.{◌≡◌, ◌<◌, ◌+◌, ◌^◌, ◌++◌, ◌&&◌, length, MatchResult, None, OnOk};
 ghost use Rattle.std.specs.Io.KnownBytes.{Appends};
 ghost use Rattle.tcap_judging.specs.Entry.{StreamTells, unfinished_entries};
 ghost use Rattle.tcap_judging.specs.EntryText.{entries_text, are_good};

@@ -1,6 +1,6 @@
 //! The line that is under way.
 
-ghost use Rattle.std.specs.Prelude.{◌≡◌, ◌++◌, List, [], ℕ, IfOk, OnOk, string_bytes, true};
+ghost use Rattle.std.specs.Prelude.{◌≡◌, ◌++◌, List, ℕ, IfOk, OnOk, string_bytes};
 ghost use Rattle.tcap_judging.specs.Entry.{line};
 ghost use Rattle.tcap_judging.specs.EntryText.{entry_text, is_good_entry};
 ghost use Rattle.tcap_judging.specs.LineViews.{AreKept, IsWithin};

@@ -2,7 +2,7 @@
 
 ghost use Rattle.std.specs.Prelude.{◌≡◌, ◌⊎◌, map, true, false, IfOk, MatchResult, option_map};
 ghost use Rattle.clap.specs.Words.{app_of, rule_of, rows_of, found_of, first_of};
-ghost use Rattle.tcap_judging.specs.CommandLine.{Ask, AskNames, AskNothing, is_mixed, is_reading, is_set, is_streamed, judge_app, layout_by, line_app, names_by, names_rule, naming_by, option_rule, reading_app, request_by};
+ghost use Rattle.tcap_judging.specs.CommandLine.{Ask, AskNames, AskNothing, bare_app, is_mixed, is_reading, is_set, is_streamed, judge_app, layout_by, line_app, names_by, names_rule, naming_by, option_rule, reading_app, request_by};
 
 use crate::fault::JudgingFault;
 use crate::form::Layout;
@@ -31,13 +31,20 @@ fn names_option<'a>(alloc: Global) -> Arg<'a>
         .action(ArgAction::Set)
 }
 
-/// The command `tcap_judge` with the first of its options.
-fn reading_command<'a>(alloc: Global) -> Result<Command<'a>, AllocError>
-    ensures { IfOk result (λ c. app_of c ≡ reading_app) }
+/// The command `tcap_judge` without options.
+fn bare_command<'a>(alloc: Global) -> Command<'a>
+    ensures { app_of result ≡ bare_app }
 {
     Command::new(alloc, "tcap_judge")
         .no_binary_name(true)
         .disable_help_flag(true)
+}
+
+/// The command `tcap_judge` with the first of its options.
+fn reading_command<'a>(alloc: Global) -> Result<Command<'a>, AllocError>
+    ensures { IfOk result (λ c. app_of c ≡ reading_app) }
+{
+    bare_command(alloc)
         .arg(option(alloc, "help"))?
         .arg(option(alloc, "version"))?
         .arg(option(alloc, "stream"))
