@@ -55,8 +55,7 @@ fn have_records(alloc: Global, rows: &[(Event<'_>, &str)]) -> bool {
 }
 
 #[test]
-fn component_requests(rt: HostRuntime) -> Result<(), Fail> {
-    let problem = Problem::new(Kind::Invoke, 127).ok_or("a problem")?;
+fn invoke_requests(rt: HostRuntime) -> Result<(), Fail> {
     let rows = [
         (
             Event::Invoke(
@@ -86,6 +85,14 @@ fn component_requests(rt: HostRuntime) -> Result<(), Fail> {
             ),
             "01 02 ffffffff 7f 04 01 00000002 2a03 00 01 80 ffffffffffffffff",
         ),
+    ];
+    assert!(rt; have_records(rt.alloc(), &rows));
+    Ok(())
+}
+
+#[test]
+fn answer_requests(rt: HostRuntime) -> Result<(), Fail> {
+    let rows = [
         (
             Event::ResultLast(
                 1,
@@ -114,6 +121,15 @@ fn component_requests(rt: HostRuntime) -> Result<(), Fail> {
             ),
             "01 05 00000002 80 00 7fffffff 01 00000000",
         ),
+    ];
+    assert!(rt; have_records(rt.alloc(), &rows));
+    Ok(())
+}
+
+#[test]
+fn reject_and_cancel_requests(rt: HostRuntime) -> Result<(), Fail> {
+    let problem = Problem::new(Kind::Invoke, 127).ok_or("a problem")?;
+    let rows = [
         (
             Event::Reject(3, RejectRequest { id: None, problem }),
             "01 06 00000003 00 01 7f",
