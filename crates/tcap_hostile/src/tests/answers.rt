@@ -116,8 +116,7 @@ fn add_abort_pdu(alloc: Global, told: &mut String, pdu: &Option<DialoguePdu<'_>>
 /// Adds a problem, and who rejects.
 fn add_reject(alloc: Global, told: &mut String, problem: Problem, by: By) -> Option<()> {
     add_words(told, "", problem_text(alloc, problem))?;
-    let by = rejector(by);
-    write!(told, " by {by}").ok()
+    write!(told, " by {}", rejector(by)).ok()
 }
 
 /// Adds what is sent, the indications of dialogue handling, and what `add_abort` does.
@@ -162,10 +161,7 @@ fn add_abort<A: Allocator>(alloc: Global, told: &mut String, output: &Output<'_,
             begin_line(told, "pabort", Some(*dialogue))?;
             add_abort_reason(told, *why)
         }
-        Output::Dropped(why) => {
-            let why = drop_reason(*why);
-            write!(told, "  dropped {why}").ok()
-        }
+        Output::Dropped(why) => write!(told, "  dropped {}", drop_reason(*why)).ok(),
         _ => add_component(alloc, told, output),
     }
 }
@@ -218,7 +214,7 @@ fn add_component<A: Allocator>(
     }
 }
 
-/// Adds the indications that close an invocation.
+/// Adds the indications that close an invocation, and what `add_end` does.
 fn add_closing<A: Allocator>(
     alloc: Global,
     told: &mut String,
@@ -254,6 +250,13 @@ fn add_closing<A: Allocator>(
             begin_numbered(told, "rejected", *dialogue, *id, *number)?;
             add_reject(alloc, told, *problem, *by)
         }
+        _ => add_end(told, output),
+    }
+}
+
+/// Adds the indications that close an invocation without an answer.
+fn add_end<A: Allocator>(told: &mut String, output: &Output<'_, A>) -> Option<()> {
+    match output {
         Output::Lapsed {
             dialogue,
             number,

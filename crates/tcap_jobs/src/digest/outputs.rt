@@ -2,16 +2,13 @@
 
 use super::Digest;
 use std::alloc::Global;
+use tcap_component::Problem;
 use tcap_engine::{Outbox, Output, OutputRef};
 
 impl Digest {
-    /// Adds what is sent, and what is told of a dialogue.
+    /// Adds what is told of a dialogue.
     fn dialogue_output(&mut self, output: &Output<'_>) -> bool {
         match output {
-            Output::Send { to, bytes } => {
-                self.octets(to.octets());
-                self.octets(bytes.as_slice());
-            }
             Output::Uni { context, info } => self.told(1, 0, *context, info),
             Output::Begin {
                 dialogue,
@@ -44,6 +41,12 @@ impl Digest {
         true
     }
 
+    /// Adds a Reject that closes no invocation.
+    fn refused(&mut self, kind: u64, dialogue: Option<u32>, id: Option<i8>, problem: Problem) {
+        self.named(kind, dialogue.unwrap_or(0), 0, id.unwrap_or(0));
+        self.problem(problem);
+    }
+
     /// Adds what is told of a component that closes no invocation.
     fn component_output(&mut self, output: &Output<'_>) -> bool {
         match output {
@@ -72,19 +75,13 @@ impl Digest {
                 dialogue,
                 id,
                 problem,
-            } => {
-                self.named(9, dialogue.unwrap_or(0), 0, id.unwrap_or(0));
-                self.problem(*problem);
-            }
+            } => self.refused(9, *dialogue, *id, *problem),
             Output::RemoteReject {
                 dialogue,
                 id,
                 problem,
                 by,
-            } => {
-                self.named(10 + *by as u64, dialogue.unwrap_or(0), 0, id.unwrap_or(0));
-                self.problem(*problem);
-            }
+            } => self.refused(10 + *by as u64, *dialogue, *id, *problem),
             _ => return false,
         }
         true
@@ -139,7 +136,10 @@ impl Digest {
 
     /// Adds what is sent or told.
     fn output(&mut self, output: &Output<'_>) {
-        if !self.dialogue_output(output) && !self.component_output(output) {
+        if let Output::Send { to, bytes } = output {
+            self.octets(to.octets());
+            self.octets(bytes.as_slice());
+        } else if !self.dialogue_output(output) && !self.component_output(output) {
             self.closing_output(output);
         }
     }
