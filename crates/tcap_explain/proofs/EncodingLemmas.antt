@@ -10,9 +10,8 @@ use Rattle.ber_core.specs.Fault.{ElementFault}
 use Rattle.ber_core.specs.HeadReading.{head_at, tag_at}
 use Rattle.ber_core.specs.ElementReading.{element_at}
 use Rattle.ber_core.specs.Stream.{is_short}
-use Rattle.ber_core.proofs.CallerLemmas.{by_result, element_takes, element_again}
+use Rattle.ber_core.proofs.CallerLemmas.{by_result, element_takes, element_again, element_fails, one_fault, no_element, fault_stays}
 use Rattle.tcap_explain.specs.EncodingPlace.{IsOpen, IsToldAt, is_short_of, is_open, open_by, told_at}
-use Rattle.tcap_explain.proofs.BerCoreLemmas.{element_fails, one_fault, no_element, fault_stays}
 
 abbrev Read : Type 0
 Read = Result (Parts × List ℕ) BerFault

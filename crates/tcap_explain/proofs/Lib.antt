@@ -1,4 +1,3 @@
-pub mod BerCoreLemmas
 pub mod CallerLemmas
 pub mod ComponentAgain
 pub mod ComponentParts

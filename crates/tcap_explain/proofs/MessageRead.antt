@@ -11,7 +11,7 @@ use Rattle.ber_core.proofs.CallerLemmas.{by_result, element_again}
 use Rattle.tcap_pdu.specs.FrameReading.{frame_at}
 use Rattle.tcap_pdu.specs.FrameLength.{dialogue_of}
 use Rattle.tcap_pdu.specs.FrameSpelling.{IsFrame, Message}
-use Rattle.tcap_pdu.proofs.FrameGrammar.{frame_again}
+use Rattle.tcap_pdu.proofs.CallerLemmas.{frame_again}
 use Rattle.tcap_component.specs.Component.{ComponentParts}
 use Rattle.tcap_component.specs.ComponentFault.{FaultParts}
 use Rattle.tcap_component.specs.ComponentReading.{component_at, components_of}

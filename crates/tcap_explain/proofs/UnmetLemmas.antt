@@ -5,7 +5,7 @@ use Rattle.std.proofs.lemmas.List.{length-append}
 use Rattle.ber_core.specs.Element.{Parts, IsElement}
 use Rattle.ber_core.specs.ElementReading.{element_at}
 use Rattle.ber_core.specs.Place.{head_length}
-use Rattle.ber_core.proofs.CallerLemmas.{by_result, element_takes, head_length-whole}
+use Rattle.ber_core.proofs.CallerLemmas.{by_result, element_takes, head_length-whole, element_fails}
 use Rattle.tcap_explain.specs.declared.line.Line.{Line}
 use Rattle.tcap_explain.specs.declared.line.Rule.TheVariants as rule
 use Rattle.tcap_explain.specs.declared.line.Explained.{Explained}
@@ -21,7 +21,6 @@ use Rattle.tcap_explain.specs.Unmet.Holds.{octets, elements, listed}
 use Rattle.tcap_explain.specs.Unmet.Stands.{ends, begins}
 use Rattle.tcap_explain.specs.Unmet.UnmetInside.{bad_octets as wrong_octets, bad_elements, not_first, not_second}
 use Rattle.tcap_explain.specs.Unmet.Unmet.{missing, more, unreadable, other, inside_it, behind_it}
-use Rattle.tcap_explain.proofs.BerCoreLemmas.{element_fails}
 use Rattle.tcap_explain.proofs.EncodingLemmas.{told_at-is}
 use Rattle.tcap_explain.proofs.WalkLemmas.{some, content_within, walk-empty, walk-next}
 

@@ -5,7 +5,7 @@ use Rattle.std.specs.List.{list_all}
 use Rattle.ber_core.proofs.CallerLemmas.{alone_again}
 use Rattle.ber_core.specs.Element.{IsElement, Parts, depth_limit}
 use Rattle.ber_core.specs.ListReading.{items_of}
-use Rattle.tcap_pdu.proofs.FrameGrammar.{frame_again, is_frame}
+use Rattle.tcap_pdu.proofs.CallerLemmas.{frame_again, is_frame}
 use Rattle.tcap_pdu.specs.FrameReading.{contents_by, frame_at, message_at, type_at}
 use Rattle.tcap_pdu.specs.FrameSpelling.{IsFrame, Message}
 use Rattle.tcap_pdu.specs.declared.fault.FrameFault.{FrameFault}

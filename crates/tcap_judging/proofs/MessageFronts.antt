@@ -3,9 +3,7 @@ use Rattle.std.proofs.Common.{◌≡◌, ◌∙◌, ◌++◌, ◌∷◌, ◌&&�
 use Rattle.std.proofs.lemmas.Bool.{cases_Bool}
 use Rattle.std.specs.List.{AllByRecursion}
 use Rattle.std.specs.Option.{unwrap_or}
-use Rattle.ber_core.proofs.CallerLemmas.{begins, begins_again, by_result, head_again-definite, head_again-indefinite}
-use Rattle.ber_core.proofs.CutGrammar.{cut_takes}
-use Rattle.ber_core.proofs.ElementGrammar.{IsElement-begins}
+use Rattle.ber_core.proofs.CallerLemmas.{begins, begins_again, by_result, head_again-definite, head_again-indefinite, cut_takes, IsElement-begins}
 use Rattle.ber_core.specs.declared.fault.FeedFault.{FeedFault}
 use Rattle.ber_core.specs.Element.{IsElement, Parts, depth_limit, joined}
 use Rattle.ber_core.specs.Head.{BeginsWithHead}

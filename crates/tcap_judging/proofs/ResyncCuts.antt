@@ -3,13 +3,12 @@ use Rattle.std.proofs.Common.{◌≡◌, ◌≤◌, ◌<◌, ◌+◌, ◌-◌, �
 use Rattle.std.proofs.Math.ListN.{drop_of_length-le}
 use Rattle.std.proofs.Math.Seq.{take-length}
 use Rattle.std.proofs.lemmas.List.{drop-append-le, drop-drop, length-append, length-drop}
-use Rattle.ber_core.proofs.CutGrammar.{after_messages, cut-faulty, cut-longer, cut_takes}
+use Rattle.ber_core.proofs.CallerLemmas.{after_messages, cut-faulty, cut-longer, cut_takes, IsElement-longer}
 use Rattle.ber_core.specs.declared.fault.FeedFault.{FeedFault}
 use Rattle.ber_core.specs.Element.{Parts, depth_limit, joined}
 use Rattle.ber_core.specs.Stream.{Cut, IsMessage, cut_into, cut_of}
 use Rattle.std.specs.List.{AllByRecursion}
 use Rattle.std.specs.Option.{unwrap_or}
-use Rattle.ber_core.proofs.CallerLemmas.{IsElement-longer}
 use Rattle.tcap_judging.proofs.MessageFronts.{begins_not, goes-longer}
 use Rattle.tcap_judging.specs.Resync.{first_of, first_place, is_found, may_be_good, may_begin, may_go_on, passed_in}
 

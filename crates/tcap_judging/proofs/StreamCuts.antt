@@ -1,8 +1,7 @@
 -- Messages that begin octets, one after the other.
 use Rattle.std.proofs.Common.{◌≡◌, ◌≤◌, ◌<◌, ◌+◌, ◌++◌, ◌∙◌, ◌∷◌, ◌&&◌, ℕ, Bool, true, List, [], length, take, drop, Option, None, refl, sym, ap, arith, append_assoc, append-nil}
 use Rattle.std.proofs.lemmas.List.{drop_at, length-append, length-take, take-append-drop}
-use Rattle.ber_core.proofs.CallerLemmas.{IsElement-longer}
-use Rattle.ber_core.proofs.CutGrammar.{after_messages, cut-message}
+use Rattle.ber_core.proofs.CallerLemmas.{IsElement-longer, after_messages, cut-message}
 use Rattle.ber_core.specs.declared.fault.FeedFault.{FeedFault}
 use Rattle.ber_core.specs.Element.{IsElement, Parts, depth_limit}
 use Rattle.ber_core.specs.Stream.{cut_by, cut_into, cut_of, with_message}

@@ -3,7 +3,7 @@ use Rattle.std.proofs.Common.{◌≡◌, ◌≢◌, ◌<◌, ◌+◌, ◌++◌, 
 use Rattle.std.specs.Io.KnownBytes.{Appends, Consumes, IsAtEnd}
 use Rattle.std.specs.Option.{is_some}
 use Rattle.std.specs.Prelude.{MatchResult}
-use Rattle.ber_core.proofs.CutGrammar.{after_messages, cut-longer}
+use Rattle.ber_core.proofs.CallerLemmas.{after_messages, cut-longer}
 use Rattle.ber_core.specs.declared.fault.FeedFault.{FeedFault}
 use Rattle.ber_core.specs.Stream.{Cut, cut_into, cut_of}
 use Rattle.tcap_judging.proofs.Going.{IsGoing, cut-end, cut-piece, finished, goes-on, short-end, short-piece, stopped}

@@ -1,8 +1,7 @@
 -- The verdict on octets at the front of which no message is.
 use Rattle.std.proofs.Common.{◌≡◌, ◌≤◌, ◌<◌, ◌∙◌, ℕ, Bool, true, false, List, [], length, take, Option, Some, None, Result, Err, nat_lt, if◌then◌else◌, refl, sym, ap, subst, arith, append-nil}
 use Rattle.std.proofs.lemmas.List.{length-take, take_all}
-use Rattle.ber_core.proofs.CutGrammar.{cut_takes}
-use Rattle.ber_core.proofs.FaultAgain.{no_element}
+use Rattle.ber_core.proofs.CallerLemmas.{cut_takes, no_element}
 use Rattle.ber_core.specs.declared.fault.BerFault.{BerFault}
 use Rattle.ber_core.specs.declared.fault.FeedFault.{FeedFault}
 use Rattle.ber_core.specs.Element.{depth_limit}

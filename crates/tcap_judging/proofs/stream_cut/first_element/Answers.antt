@@ -1,5 +1,5 @@
 use Rattle.std.proofs.Common.{◌∙◌, subst, sym}
-use Rattle.ber_core.proofs.CutGrammar.{cut-stops}
+use Rattle.ber_core.proofs.CallerLemmas.{cut-stops}
 use Rattle.ber_core.specs.Element.{depth_limit}
 use Rattle.ber_core.specs.Fault.{ElementFault}
 use Rattle.tcap_judging.proofs.StreamCuts.{message-first}
