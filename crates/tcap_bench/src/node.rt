@@ -172,10 +172,10 @@ impl Calls for OutboxNode {
 
     fn receive_begin(&mut self, bytes: &[u8]) -> Option<(u32, u64)> {
         let told = self.receive(bytes)?;
-        match self.outbox.get(0)? {
-            OutputRef::Indication(Indication::Begin { dialogue, .. }) => Some((dialogue, told)),
-            _ => None,
-        }
+        let OutputRef::Indication(Indication::Begin { dialogue, .. }) = self.outbox.get(0)? else {
+            return None;
+        };
+        Some((dialogue, told))
     }
 
     fn advance(&mut self, now: u64) -> Option<u64> {

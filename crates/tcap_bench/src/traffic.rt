@@ -101,14 +101,16 @@ impl Traffic {
 
 /// The dialogue that an answer tells of as new.
 fn dialogue_of(answer: &Answer) -> Option<u32> {
-    match answer {
-        Answer::NewDialogue(dialogue) => Some(*dialogue),
-        Answer::Outputs(outputs) => match *outputs.first()? {
-            Output::Begin { dialogue, .. } => Some(dialogue),
-            _ => None,
-        },
-        _ => None,
+    if let Answer::NewDialogue(dialogue) = answer {
+        return Some(*dialogue);
     }
+    let Answer::Outputs(outputs) = answer else {
+        return None;
+    };
+    let Output::Begin { dialogue, .. } = outputs.first()? else {
+        return None;
+    };
+    Some(*dialogue)
 }
 
 /// So many turns over these places: the digest of all that was answered.

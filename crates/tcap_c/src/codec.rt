@@ -10,6 +10,7 @@ ghost use Rattle.tcap_c.specs.Status.{status_number};
 
 use crate::room::copy_part;
 use crate::status::Status;
+use ber_core::OutOfMemory;
 use object_identifiers::{ObjectIdentifier, dotted, object_identifier};
 use std::alloc::Global;
 use tcap_pdu::{TransId, front_ids};
@@ -144,7 +145,7 @@ pub extern "C" fn tcap_c_show(
 {
     match show_text(alloc, message) {
         Ok(shown) => fill_text(&shown, is_good, count, room).number(),
-        Err(_) => Status::Refused(Fault::OutOfMemory).number(),
+        Err(OutOfMemory) => Status::Refused(Fault::OutOfMemory).number(),
     }
 }
 
@@ -162,7 +163,7 @@ pub extern "C" fn tcap_c_check(
 {
     match check_text(alloc, message) {
         Ok(shown) => fill_text(&shown, is_good, count, room).number(),
-        Err(_) => Status::Refused(Fault::OutOfMemory).number(),
+        Err(OutOfMemory) => Status::Refused(Fault::OutOfMemory).number(),
     }
 }
 
@@ -181,6 +182,6 @@ pub extern "C" fn tcap_c_canon(
 {
     match canon_text(alloc, message) {
         Ok(shown) => fill_text(&shown, is_good, count, room).number(),
-        Err(_) => Status::Refused(Fault::OutOfMemory).number(),
+        Err(OutOfMemory) => Status::Refused(Fault::OutOfMemory).number(),
     }
 }

@@ -6,7 +6,7 @@ ghost use Rattle.tcap_c.specs.StepForm.{Refuses};
 
 use crate::handle::Handle;
 use crate::status::Status;
-use std::alloc::Global;
+use std::alloc::{AllocFailed, Global};
 use tcap_engine::Limits;
 use tcap_invocation::MAX_MOMENT;
 use tcap_primitives::Fault;
@@ -71,7 +71,7 @@ pub extern "C" fn tcap_c_open(
             handle.put(station);
             Status::Done.number()
         }
-        Err(_) => Status::Refused(Fault::OutOfMemory).number(),
+        Err(AllocFailed { .. }) => Status::Refused(Fault::OutOfMemory).number(),
     }
 }
 

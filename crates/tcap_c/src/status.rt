@@ -54,7 +54,7 @@ impl Status {
     {
         match answer {
             Ok(()) => Status::Done.number(),
-            Err(_) => Status::Refused(Fault::OutOfMemory).number(),
+            Err(OutOfMemory) => Status::Refused(Fault::OutOfMemory).number(),
         }
     }
 }

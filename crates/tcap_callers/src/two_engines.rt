@@ -49,13 +49,13 @@ fn last_sent<'a, A: Allocator + Copy>(
 ) -> Option<&'a [u8]>
     ensures { IfSome result (λ octets. IsSentTo receiver.now octets.now (answers_view answers.now)) }
 {
-    match answers.last()? {
-        Answer::Outputs(outputs) => match outputs.first()? {
-            Output::Send { to, bytes } => octets_for(bytes.as_slice(), to, receiver),
-            _ => None,
-        },
-        _ => None,
-    }
+    let Answer::Outputs(outputs) = answers.last()? else {
+        return None;
+    };
+    let Output::Send { to, bytes } = outputs.first()? else {
+        return None;
+    };
+    octets_for(bytes.as_slice(), to, receiver)
 }
 
 /// Hands the message that the engine at `from` sends in these answers to the one at `to`, if there is one and
@@ -79,17 +79,18 @@ fn hand_on<'m, A: Allocator + Copy>(
 fn told_result<A: Allocator + Copy>(answers: &[Answer<'_, A>]) -> Option<(u32, u64)>
     ensures { IfSome result (λ told. TellsResult told.0 told.1 (answers_view answers.now)) }
 {
-    match answers.last()? {
-        Answer::Outputs(outputs) => match outputs.last()? {
-            Output::ResultLast {
-                dialogue,
-                number,
-                ..
-            } => Some((*dialogue, *number)),
-            _ => None,
-        },
-        _ => None,
-    }
+    let Answer::Outputs(outputs) = answers.last()? else {
+        return None;
+    };
+    let Output::ResultLast {
+        dialogue,
+        number,
+        ..
+    } = outputs.last()?
+    else {
+        return None;
+    };
+    Some((*dialogue, *number))
 }
 
 /// What the user of the first engine asks for: a new dialogue, which is 1, operation 10, and a Begin to an

@@ -31,7 +31,7 @@ fn act(rt: &HostRuntime, output: &Output<'_>) -> anyhow::Result<()> {
         }
         Output::ResultLast { number, .. } => println!(rt; "invocation {number} has its result")?,
         Output::Lapsed { number, .. } => println!(rt; "invocation {number} was not answered")?,
-        _ => println!(rt; "{output:?}")?,
+        other => println!(rt; "{other:?}")?,
     }
     Ok(())
 }

@@ -47,12 +47,10 @@ fn is_listed(line: Line, element: &Element<'_>) -> bool
     requires { IsElement depth_limit (parts element.now) }
     ensures { result ≡ true → walk line element.now.content.now ≡ None }
 {
-    match line {
-        Line::List(ListLine::Elements) => {
-            element.content.len() < element.whole.len() - head_len(element.whole)
-        }
-        _ => false,
-    }
+    let Line::List(ListLine::Elements) = line else {
+        return false;
+    };
+    element.content.len() < element.whole.len() - head_len(element.whole)
 }
 
 /// What is not met in the elements that an element holds, behind a head of so many octets.

@@ -153,16 +153,16 @@ impl Node {
 
 /// The dialogue that a message begins, 0 where it begins none.
 pub(crate) fn begun(told: &[Output<'_>]) -> u32 {
-    match told.first() {
-        Some(Output::Begin { dialogue, .. }) => *dialogue,
-        _ => 0,
+    if let Some(Output::Begin { dialogue, .. }) = told.first() {
+        return *dialogue;
     }
+    0
 }
 
 /// The dialogue that begins with what an outbox holds, 0 where none does.
 fn begun_in(outbox: &Outbox) -> u32 {
-    match outbox.get(0) {
-        Some(OutputRef::Indication(Indication::Begin { dialogue, .. })) => dialogue,
-        _ => 0,
+    if let Some(OutputRef::Indication(Indication::Begin { dialogue, .. })) = outbox.get(0) {
+        return dialogue;
     }
+    0
 }

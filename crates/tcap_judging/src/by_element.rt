@@ -221,10 +221,10 @@ fn found_in(verdict: Verdict, element: &Element<'_>, frame: &Frame<'_>) -> Optio
     requires of_octets { verdict ≡ verdict_of element.now.whole.now }
     ensures { result ≡ explained_at element.now.whole.now }
 {
-    match verdict {
-        Verdict::Good => None,
-        _ => explain_message(verdict, element, frame),
+    if let Verdict::Good = verdict {
+        return None;
     }
+    explain_message(verdict, element, frame)
 }
 
 /// An element that is this message, judged.

@@ -14,9 +14,10 @@ pub(crate) fn judged_so(octets: &[u8], verdict: Verdict) -> Judged<'_>
     requires { verdict ≡ verdict_of octets.now }
     ensures { result.octets.now ≡ octets.now }
 {
-    let found = match verdict {
-        Verdict::Good => None,
-        _ => explain_verdict(verdict, octets),
+    let found = if let Verdict::Good = verdict {
+        None
+    } else {
+        explain_verdict(verdict, octets)
     };
     Judged {
         octets,

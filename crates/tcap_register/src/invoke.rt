@@ -24,29 +24,30 @@ pub(crate) struct Invoke<'m> {
 pub(crate) fn invoke_told<'m, A: Allocator>(output: &Output<'m, A>) -> Option<Invoke<'m>>
     ensures { option_map invoke_view result ≡ invoke_told (shown output.now) }
 {
-    match output {
-        Output::Invoked {
-            dialogue: Some(dialogue),
-            id,
-            code,
-            parameter,
-            ..
-        } => Some(Invoke {
-            dialogue: *dialogue,
-            id: *id,
-            code: *code,
-            parameter: *parameter,
-        }),
-        _ => None,
-    }
+    let Output::Invoked {
+        dialogue: Some(dialogue),
+        id,
+        code,
+        parameter,
+        ..
+    } = output
+    else {
+        return None;
+    };
+    Some(Invoke {
+        dialogue: *dialogue,
+        id: *id,
+        code: *code,
+        parameter: *parameter,
+    })
 }
 
 /// The dialogue that a message began or continued, if an output tells one.
 pub(crate) fn dialogue_told<A: Allocator>(output: &Output<'_, A>) -> Option<u32>
     ensures { result ≡ dialogue_told (shown output.now) }
 {
-    match output {
-        Output::Begin { dialogue, .. } | Output::Continue { dialogue, .. } => Some(*dialogue),
-        _ => None,
+    if let Output::Begin { dialogue, .. } | Output::Continue { dialogue, .. } = output {
+        return Some(*dialogue);
     }
+    None
 }
