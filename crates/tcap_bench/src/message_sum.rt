@@ -4,7 +4,7 @@ ghost use Rattle.std.specs.Prelude.{◌≡◌, option_copied};
 ghost use Rattle.tcap_pdu.specs.DialogueReading.{dialogue_at};
 ghost use Rattle.tcap_pdu.specs.DialogueViews.{source, pdu_value};
 ghost use Rattle.tcap_pdu.specs.FrameViews.{message, reason_of};
-ghost use Rattle.tcap_bench.specs.Checksum.{checksum, flag, diagnostic_number, pdu_numbers, dialogue_numbers, portion_numbers, portions_numbers, reason_numbers, identifier_number, message_numbers, message_checksum};
+ghost use Rattle.tcap_bench.specs.Checksum.{checksum, flag, diagnostic_number, pdu_numbers, dialogue_numbers, portions_numbers, reason_numbers, identifier_number, message_numbers, message_checksum};
 
 use crate::component_sum::add_components;
 use crate::sum::add;

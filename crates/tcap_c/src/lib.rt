@@ -1,8 +1,8 @@
 //! The engine for C: calls that take a handle to a station.
 //!
-//! Stands on `tcap_station`, `tcap_text`, `object_identifiers` and the crates below them; c/tcap.c stands over it. Begin
-//! at `tcap_c_open`, which makes a handle. src/handle.rt has the handle and its station, src/telling.rt how C is told an
-//! output.
+//! Stands on `tcap_station`, `tcap_text`, `object_identifiers` and the crates below them; c/tcap.c stands over it.
+//! Begin at `tcap_c_open`, which makes a handle. src/handle.rt has the handle and its station, src/telling.rt how C is
+//! told an output.
 #![tactic(auto)]
 
 mod arguments;

@@ -35,7 +35,8 @@ fn write_piece<A: Allocator + Copy, W: Write>(
 ) -> Result<bool, JudgingFault>
     requires { begun.old.number + length piece.now < 2 ^ 64 }
     ensures writes { (before : List ℕ) → IsUnderWay before begun.old.kept.items begun.old.is_long
-        → MatchResult result (λ good. Writes (form_view form.entry) naming before piece.now begun.old.number begun.new.kept.items
+        → MatchResult result
+        (λ good. Writes (form_view form.entry) naming before piece.now begun.old.number begun.new.kept.items
         begun.new.is_long begun.new.number (W.contents writer.old) (W.contents writer.new) good)
         (λ fault. IsUntaken (form_view form.entry) naming before piece.now begun.old.number (W.contents writer.old)
         (W.contents writer.new) fault) }

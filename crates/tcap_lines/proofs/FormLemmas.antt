@@ -1,14 +1,13 @@
 -- Words held against a form.
-use Rattle.std.proofs.Common.{◌≡◌, ◌+◌, ◌&&◌, ◌||◌, ◌++◌, ℕ, Bool, true, false, not, List, [], ◌∷◌, map, bytes_eq, Option, Some, None, is_some, option_map, cond, refl, sym, ap, ◌∙◌, subst, if◌then◌else◌}
+use Rattle.std.proofs.Common.{◌≡◌, ◌+◌, ◌&&◌, ◌||◌, ◌++◌, ℕ, Bool, true, false, not, List, [], ◌∷◌, map, bytes_eq, Option, Some, None, is_some, option_map, cond, refl, sym, ◌∙◌, subst, if◌then◌else◌}
 use Rattle.std.specs.List.{AllByRecursion, find, list_any}
 use Rattle.std.proofs.lemmas.Slice.Eq.{bytes_eq-Decides}
 use Rattle.tcap_lines.specs.declared.expected.Expected.{Expected}
 use Rattle.tcap_lines.specs.declared.fault.LineFault.{LineFault}
 use Rattle.tcap_lines.specs.declared.fault.WordFault.TheVariants as fault
 use Rattle.tcap_lines.specs.Fits.{fits}
-use Rattle.tcap_lines.specs.LineFaults.{judged, missing}
 use Rattle.tcap_lines.specs.Misfit.{or_else, told, unwritten}
-use Rattle.tcap_lines.specs.Reading.{at_word, first_fault, or_later, walk}
+use Rattle.tcap_lines.specs.Reading.{first_fault, or_later, walk}
 use Rattle.tcap_lines.specs.Table.{FormWords, LineTable, Wanted, is_listed, names_of, wanted_behind, wanted_by_name, words_named}
 use Rattle.tcap_lines.proofs.TableLemmas.{listed, named_is, unlisted}
 

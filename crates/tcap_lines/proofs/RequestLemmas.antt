@@ -1,5 +1,5 @@
 -- The words of a request are what is expected exactly where a script has the request.
-use Rattle.std.proofs.Common.{◌≡◌, ◌&&◌, ◌||◌, ℕ, ℤ, pos, neg_ℤ, Bool, true, false, not, List, [], ◌∷◌, Option, Some, None, is_some, refl, sym, ap, ◌∙◌}
+use Rattle.std.proofs.Common.{◌≡◌, ◌&&◌, ℕ, pos, neg_ℤ, Bool, true, false, List, [], ◌∷◌, Option, is_some, refl, ◌∙◌}
 use Rattle.ber_core.specs.Options.{◌>>=◌}
 use Rattle.tcap_play.specs.ScriptLine.{abort_request_of, cancel_request_of, error_request_of, invoke_request_of, last_request_of, more_request_of, reject_request_of}
 use Rattle.tcap_play.specs.ScriptWords.{body_of, class_of, code_of, dialogue_of, identifier_of, kind_of, milliseconds_of, octets_of, optional_identifier_of, optional_octets_of, problem_of, reason_of}

@@ -1,11 +1,10 @@
 -- A word is what is expected exactly where the readers of a script read it.
-use Rattle.std.proofs.Common.{◌≡◌, ◌<◌, ◌≤◌, ◌+◌, ◌*◌, ◌&&◌, ◌||◌, ℕ, ℤ, pos, neg_ℤ, nat_le, nat_lt, Bool, true, false, not, List, [], ◌∷◌, length, codes, bytes_eq, Option, Some, None, is_some, option_map, option_and_then, cond, subst, ◌-◌, ◌==◌, refl, sym, ap, ◌∙◌, arith, if◌then◌else◌}
+use Rattle.std.proofs.Common.{◌≡◌, ◌≤◌, ◌+◌, ◌*◌, ◌&&◌, ◌||◌, ℕ, pos, neg_ℤ, nat_le, nat_lt, Bool, true, false, not, List, [], ◌∷◌, length, codes, bytes_eq, Option, Some, None, is_some, option_map, option_and_then, cond, subst, ◌-◌, ◌==◌, refl, sym, ◌∙◌, arith, if◌then◌else◌}
 use Rattle.std.specs.Char.{digit_value, is_digit}
-use Rattle.std.specs.List.{list_all}
 use Rattle.std.specs.Str.Parse.{digits_value_after}
 use Rattle.ber_core.specs.Options.{◌>>=◌}
-use Rattle.tcap_play.specs.Numbers.{are_digits, at_most, is_number, is_padded, number, number_between, number_up_to}
-use Rattle.tcap_play.specs.ScriptWords.{class_of, code_of, identifier_of, octets_of, optional_identifier_of, optional_octets_of, spelled_in, body_of, body_with}
+use Rattle.tcap_play.specs.Numbers.{are_digits, at_most, is_padded, number, number_between, number_up_to}
+use Rattle.tcap_play.specs.ScriptWords.{class_of, code_of, identifier_of, optional_identifier_of, optional_octets_of, spelled_in, body_of, body_with}
 use Rattle.tcap_lines.specs.Fits.{is_dash, is_number_within, is_octets, is_signed_within, is_within}
 
 abbrev some_of : ℕ → Option ℕ

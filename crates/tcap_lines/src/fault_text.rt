@@ -1,7 +1,7 @@
 //! The words of what is wrong with a line.
 
 ghost use Rattle.std.specs.Prelude.{◌≡◌, ◌++◌, [], ◌∷◌, codes, OnOk, string_bytes, map};
-ghost use Rattle.std.specs.Fmt.{decimal, signed_decimal};
+ghost use Rattle.std.specs.Fmt.{signed_decimal};
 ghost use Rattle.hex.specs.Hex.{encode_lower};
 ghost use Rattle.tcap_lines.specs.FaultText.{expected_words, fault_words, line_fault_words, name_words, names_at, one_of, range_words, signed_range_words};
 ghost use Rattle.tcap_lines.specs.Table.{names_of};

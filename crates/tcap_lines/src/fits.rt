@@ -2,7 +2,6 @@
 
 ghost use Rattle.std.specs.Prelude.{◌≡◌, ◌&&◌, bytes_eq, int_le};
 ghost use Rattle.tcap_lines.specs.Fits.{fits, is_dash, is_octets, is_address, is_dotted, is_number_within, is_signed_within, is_problem_kind, is_abort_reason, is_message};
-ghost use Rattle.tcap_lines.specs.declared.expected.Expected.{Expected as Wanted};
 
 use crate::expected::Expected;
 use object_identifiers::object_identifier;

@@ -1,6 +1,6 @@
 //! A line held against a table.
 
-ghost use Rattle.std.specs.Prelude.{◌≡◌, ◌+◌, ◌≤◌, ℕ, List, [], ◌∷◌, option_map, map, IfSome, IfNone, IsNone, IsSomeAnd};
+ghost use Rattle.std.specs.Prelude.{◌≡◌, ◌+◌, ◌≤◌, ℕ, List, [], ◌∷◌, map, IfSome, IfNone, IsNone, IsSomeAnd};
 ghost use Rattle.tcap_play.specs.Pieces.{left, pieces_left, words_of};
 ghost use Rattle.tcap_lines.specs.LineFaults.{IsFirstFault, IsGoodLine, judged};
 ghost use Rattle.tcap_lines.specs.Reading.{first_fault, walk};

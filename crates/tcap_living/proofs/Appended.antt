@@ -1,5 +1,5 @@
 -- Texts to which parts were added one behind the other.
-use Rattle.std.proofs.Common.{◌≡◌, ◌++◌, ◌∙◌, ℕ, List, Result, Ok, Err, OnOk, refl, sym, ap}
+use Rattle.std.proofs.Common.{◌≡◌, ◌++◌, ◌∙◌, ℕ, List, Result, Ok, Err, OnOk, sym, ap}
 use Rattle.std.proofs.lemmas.List.{append_assoc}
 
 -- a part behind a part

@@ -1,26 +1,24 @@
 -- A line has a form exactly where none of its words is wrong.
-use Rattle.std.proofs.Common.{◌≡◌, ◌&&◌, ◌||◌, ℕ, Bool, true, false, not, List, [], ◌∷◌, codes, bytes_eq, Option, Some, None, is_some, option_map, refl, sym, ap, ◌∙◌, if◌then◌else◌, is_ok}
+use Rattle.std.proofs.Common.{◌≡◌, ◌&&◌, ◌||◌, ℕ, Bool, true, false, not, List, [], ◌∷◌, codes, bytes_eq, Option, Some, None, is_some, option_map, refl, sym, ap, ◌∙◌, is_ok}
 use Rattle.std.specs.List.{AllByRecursion}
 use Rattle.std.specs.Option.{option_or}
 use Rattle.std.specs.Result.{result_ok}
 use Rattle.std.specs.Prelude.{Result, Ok, Err}
 use Rattle.ber_core.specs.Options.{◌>>=◌}
 use Rattle.object_identifiers.specs.Contents.{object_identifier_at}
-use Rattle.tcap_model.specs.Words.Event.{Event}
 use Rattle.tcap_model.specs.Words.Request.{DialogueRequest, Ending, Request}
-use Rattle.tcap_play.specs.Numbers.{number_up_to}
 use Rattle.tcap_play.specs.ScriptLine.{abort_request_of, cancel_request_of, error_request_of, invoke_request_of, last_request_of, more_request_of, reject_request_of}
 use Rattle.tcap_play.specs.ScriptWords.{dialogue_of, named_address, octets_of, optional_octets_of}
 use Rattle.tcap_lines.specs.Fits.{is_address, is_dotted, is_number_within, is_octets}
-use Rattle.tcap_lines.specs.LineFaults.{IsFirstFault, IsGoodLine}
+use Rattle.tcap_lines.specs.LineFaults.{IsGoodLine}
 use Rattle.tcap_lines.specs.Reading.{first_fault}
 use Rattle.tcap_lines.specs.declared.fault.LineFault.{LineFault}
 use Rattle.tcap_play.specs.Pieces.{is_skipped, words_of}
 use Rattle.tcap_lines.specs.Table.{names_of, words_named}
 use Rattle.tcap_lines.proofs.CallerLemmas.{abort_fits, alone_told, and_true, as_long, asked_fits, by_count, by_name, cancel_fits, error_fits, has_form, invoke_fits, last_fits, made_read, more_fits, none_good, none_read, number_fits, octets_fit, reject_fits, some_first, then_read}
-use Rattle.tcap_living.specs.LiveLine.{LiveLine, answering_named, answering_request_of, asked_on, context_of, dotted_context_of, line_of, line_of_eight, line_of_five, line_of_four, line_of_one, line_of_three, line_of_two, opening_named, opening_request_of, received_from}
+use Rattle.tcap_living.specs.LiveLine.{LiveLine, answering_named, answering_request_of, asked_on, context_of, line_of, line_of_eight, line_of_five, line_of_four, line_of_one, line_of_three, line_of_two, opening_named, opening_request_of}
 use Rattle.tcap_living.specs.LiveTable.{live_forms, live_table}
-use Rattle.tcap_living.specs.LiveText.{bad_line, is_good_line, line_text}
+use Rattle.tcap_living.specs.LiveText.{is_good_line}
 use Rattle.tcap_living.specs.WrongWords.{IsReadUnlessWrong, IsToldBad}
 
 -- a request on a dialogue

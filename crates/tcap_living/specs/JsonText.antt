@@ -1,6 +1,6 @@
 -- An answer in JSON: an object in each line. Octets are hexadecimal between quotation marks, what is absent is null, and
 -- no word has a quotation mark or a backslash.
-use Rattle.std.specs.Prelude.{ℕ, ℤ, List, [], ◌++◌, codes, Option, Some, None}
+use Rattle.std.specs.Prelude.{ℕ, ℤ, List, ◌++◌, codes, Option, Some, None}
 use Rattle.std.specs.Fmt.{decimal, signed_decimal}
 use Rattle.std.specs.List.{flat_map}
 use Rattle.hex.specs.Hex.{encode_lower}

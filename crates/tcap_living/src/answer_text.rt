@@ -1,6 +1,6 @@
 //! The lines of an answer, in words.
 
-ghost use Rattle.std.specs.Prelude.{◌≡◌, ◌++◌, codes, OnOk, string_bytes};
+ghost use Rattle.std.specs.Prelude.{◌≡◌, ◌++◌, OnOk, string_bytes};
 ghost use Rattle.std.specs.Fmt.{decimal};
 ghost use Rattle.tcap_engine.specs.EventViews.{answer_view};
 ghost use Rattle.tcap_primitives.specs.FaultViews.{fault_view};

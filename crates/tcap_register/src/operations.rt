@@ -1,6 +1,6 @@
 //! What a register can do: the operations of its user.
 
-ghost use Rattle.std.specs.Prelude.{◌≡◌, ℕ, ℤ, List, Option, option_copied};
+ghost use Rattle.std.specs.Prelude.{ℕ, ℤ, List, Option, option_copied};
 ghost use Rattle.tcap_component.specs.Component.{CodeParts};
 ghost use Rattle.tcap_component.specs.Views.{code_parts};
 ghost use Rattle.tcap_invocation.specs.declared.class.Class.{Class as OperationClass};

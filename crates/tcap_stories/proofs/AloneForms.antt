@@ -1,6 +1,5 @@
 -- A line without a side has a form exactly where a script reads it, or where it stands in a story alone.
-use Rattle.std.proofs.Common.{◌≡◌, ◌&&◌, ◌||◌, ℕ, Bool, true, false, not, List, [], ◌∷◌, codes, bytes_eq, Option, Some, None, is_some, refl, sym, ap, ◌∙◌, if◌then◌else◌}
-use Rattle.std.specs.List.{AllByRecursion}
+use Rattle.std.proofs.Common.{◌≡◌, ◌&&◌, ◌||◌, ℕ, Bool, true, false, List, [], ◌∷◌, codes, bytes_eq, Option, None, is_some, refl, sym, ◌∙◌, if◌then◌else◌}
 use Rattle.ber_core.specs.Options.{◌>>=◌}
 use Rattle.tcap_invocation.specs.Stage.{moment_limit}
 use Rattle.tcap_model.specs.Words.Event.{Event}
@@ -9,7 +8,7 @@ use Rattle.tcap_play.specs.ScriptLine.{abort_request_of, asked_on, begin_request
 use Rattle.tcap_play.specs.ScriptWords.{engine_of, idle_limit_of, milliseconds_of, name_of, named_address, octets_of}
 use Rattle.tcap_lines.specs.Fits.{is_number_within}
 use Rattle.tcap_lines.specs.Table.{names_of, words_named}
-use Rattle.tcap_lines.proofs.CallerLemmas.{and_true, as_long, by_count, by_name, has_form, made_read, none_read, number_fits, then_read}
+use Rattle.tcap_lines.proofs.CallerLemmas.{and_true, as_long, by_count, by_name, has_form, made_read, none_read, number_fits}
 use Rattle.tcap_stories.specs.StoryTable.{forms_alone}
 
 -- a line that no play has, but a story: an idle limit, and an expectation that says nothing

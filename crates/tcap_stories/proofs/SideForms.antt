@@ -1,11 +1,11 @@
 -- The words behind a side have a form exactly where a script reads them.
-use Rattle.std.proofs.Common.{◌≡◌, ◌&&◌, ◌||◌, ℕ, Bool, true, false, not, List, [], ◌∷◌, codes, bytes_eq, Option, Some, None, is_some, refl, sym, ap, ◌∙◌, if◌then◌else◌}
+use Rattle.std.proofs.Common.{◌≡◌, ◌&&◌, ℕ, Bool, true, false, List, [], ◌∷◌, codes, bytes_eq, Option, Some, None, is_some, refl, sym, ◌∙◌, if◌then◌else◌}
 use Rattle.std.specs.List.{AllByRecursion}
 use Rattle.ber_core.specs.Options.{◌>>=◌}
 use Rattle.tcap_model.specs.Words.Address.{Address}
 use Rattle.tcap_model.specs.Words.Event.{Event}
 use Rattle.tcap_model.specs.Words.Request.{DialogueRequest, Ending, Request}
-use Rattle.tcap_play.specs.ScriptLine.{ScriptLine, abort_request_of, asked_on, begin_request_of, called_on, cancel_request_of, error_request_of, invoke_request_of, last_request_of, line_of, line_of_five, line_of_four, line_of_nine, line_of_six, line_of_three, line_of_two, more_request_of, portion_request_named, portion_request_of, portion_request_on, received_from, received_on, reject_request_of}
+use Rattle.tcap_play.specs.ScriptLine.{abort_request_of, asked_on, begin_request_of, called_on, cancel_request_of, error_request_of, invoke_request_of, last_request_of, line_of, line_of_five, line_of_four, line_of_nine, line_of_six, line_of_three, line_of_two, more_request_of, portion_request_named, portion_request_of, portion_request_on, reject_request_of}
 use Rattle.tcap_play.specs.ScriptWords.{dialogue_of, engine_of, named_address, octets_of, optional_octets_of}
 use Rattle.tcap_play.specs.Sides.{Engine, address_of, far}
 use Rattle.tcap_lines.specs.Fits.{is_address, is_number_within, is_octets}

@@ -1,14 +1,11 @@
 -- Which lines of a story are bad.
-use Rattle.std.proofs.Common.{◌≡◌, ◌⊎◌, inl, inr, ◌&&◌, ◌||◌, ℕ, Bool, true, false, not, List, [], ◌∷◌, codes, bytes_eq, Option, Some, None, is_some, option_map, option_and_then, refl, sym, ap, ◌∙◌, if◌then◌else◌, subst}
+use Rattle.std.proofs.Common.{◌≡◌, ◌||◌, ℕ, Bool, true, false, not, List, [], ◌∷◌, codes, bytes_eq, is_some, refl, sym, ap, ◌∙◌, subst}
 use Rattle.std.proofs.lemmas.Slice.Eq.{bytes_eq-Decides}
-use Rattle.tcap_play.specs.Play.{Fate, Played, Stepped, carried, message_in, sent_by, step}
-use Rattle.tcap_play.specs.ScriptLine.{ScriptLine, line_of}
-use Rattle.tcap_play.specs.ScriptWords.{MessageName, engine_of, idle_limit_of, name_of}
+use Rattle.tcap_play.specs.ScriptLine.{line_of}
 use Rattle.tcap_play.specs.Sides.{Engine}
 use Rattle.tcap_lines.specs.Reading.{first_fault}
 use Rattle.tcap_lines.specs.Table.{is_listed}
 use Rattle.tcap_lines.proofs.CallerLemmas.{alone_told, has_form_on_side, side_told}
-use Rattle.tcap_stories.specs.BadLine.{IsUnfit}
 use Rattle.tcap_stories.specs.StoryTable.{forms_on_side, story_table}
 use Rattle.tcap_stories.proofs.AloneForms.{alone_formed, stands_in_story}
 use Rattle.tcap_stories.proofs.SideForms.{IsSide, side_formed}

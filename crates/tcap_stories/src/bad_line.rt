@@ -1,8 +1,7 @@
 //! What is told of a bad line.
 
 ghost use Rattle.std.specs.Prelude.{◌≡◌, ◌++◌, OnOk, string_bytes};
-ghost use Rattle.tcap_play.specs.Pieces.{words_of};
-ghost use Rattle.tcap_stories.specs.BadLine.{bad_line, first_of, reason_of, unfit_words, wrong_in};
+ghost use Rattle.tcap_stories.specs.BadLine.{bad_line, reason_of, unfit_words, wrong_in};
 
 use crate::expected_text::text_fault;
 use crate::story_line::expectation;

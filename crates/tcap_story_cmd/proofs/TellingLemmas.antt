@@ -7,7 +7,7 @@ use Rattle.tcap_story_cmd.specs.Counting.{AreCounts, counted}
 use Rattle.tcap_story_cmd.specs.Reading.{AreHalted, AreRead, IsGiven, IsRead}
 use Rattle.tcap_story_cmd.specs.Report.{end_of, front_of}
 use Rattle.tcap_story_cmd.specs.Run.{AreTold, IsTaken, IsText}
-use Rattle.tcap_story_cmd.specs.Stories.{Entry, many, overall, report_by, reports, same_verdict, told_stories, verdict_by}
+use Rattle.tcap_story_cmd.specs.Stories.{Entry, many, overall, report_by, reports, same_verdict, verdict_by}
 use Rattle.tcap_story_cmd.specs.declared.report_text.Report.{Report}
 use Rattle.tcap_story_cmd.specs.declared.tally.Tally.{Tally}
 use Rattle.tcap_story_cmd.specs.declared.unread.Unread.{Unread}

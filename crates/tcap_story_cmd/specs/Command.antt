@@ -1,5 +1,5 @@
 -- What a run of the program gives: what it writes and its verdict, or why it came to none.
-use Rattle.std.specs.Prelude.{◌≡◌, ℕ, List, [], ◌++◌, codes, Option, Some, None, Result, Ok, Err, MatchResult}
+use Rattle.std.specs.Prelude.{◌≡◌, ℕ, List, codes, Option, Some, None, Result, Ok, Err}
 use Rattle.std.specs.Io.KnownBytes.{Appends, Keeps}
 use Rattle.tcap_words.specs.Writing.{IsFront}
 use Rattle.tcap_story_cmd.specs.CommandLine.{Asked, asked_by, inputs_of}

@@ -1,5 +1,5 @@
 -- The words of the program `tcap_story`.
-use Rattle.std.specs.Prelude.{ℕ, ◌+◌, ◌==◌, drop, Bool, true, false, List, [], ◌∷◌, codes, bytes_eq, map, Option, Some, None, if◌then◌else◌}
+use Rattle.std.specs.Prelude.{ℕ, ◌+◌, ◌==◌, drop, Bool, false, List, [], ◌∷◌, codes, bytes_eq, map, Option, Some, None, if◌then◌else◌}
 use Rattle.std.specs.List.{list_any}
 use Rattle.tcap_story_cmd.specs.declared.report_text.Report.{Report}
 use Rattle.tcap_story_cmd.specs.declared.report_text.Report.TheVariants as report

@@ -3,7 +3,7 @@ use Rattle.std.specs.Prelude.{◌≡◌, ℕ, List, [], ◌++◌, Option, Result
 use Rattle.std.specs.Io.KnownBytes.{Appends, Keeps}
 use Rattle.tcap_words.specs.Writing.{IsFront}
 use Rattle.tcap_story_cmd.specs.Counting.{AreCounts}
-use Rattle.tcap_story_cmd.specs.Reading.{AreHalted, AreRead, IsGiven, IsRead}
+use Rattle.tcap_story_cmd.specs.Reading.{AreHalted, AreRead, IsRead}
 use Rattle.tcap_story_cmd.specs.Stories.{Entry, report_by, reports, told_stories, verdict_by, verdict_on}
 use Rattle.tcap_story_cmd.specs.declared.refusal.Refusal.{Refusal}
 use Rattle.tcap_story_cmd.specs.declared.refusal.Refusal.TheVariants as refusal

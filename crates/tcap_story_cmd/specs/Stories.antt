@@ -1,5 +1,5 @@
 -- Stories one after the other: their texts, what is told of them, and the verdict on all.
-use Rattle.std.specs.Prelude.{ℕ, Bool, true, false, not, ◌==◌, List, [], ◌∷◌, ◌++◌, count_by, Result, Ok, Err, if◌then◌else◌}
+use Rattle.std.specs.Prelude.{ℕ, Bool, true, false, ◌==◌, List, [], ◌∷◌, ◌++◌, count_by, Result, Ok, Err, if◌then◌else◌}
 use Rattle.tcap_play.specs.Play.{Printed}
 use Rattle.tcap_stories.specs.Story.{told_story}
 use Rattle.tcap_story_cmd.specs.Report.{end_of, front_of, reported, unread_words}

@@ -76,8 +76,9 @@ fn count_items(components: &[u8]) -> usize
 }
 
 /// Makes room for the Rejects that answer the components of a message, for which `room_for` gave `items`.
-// Mostly there is room, or there are no components: neither costs a call, which took 25 instructions a message. Nor is
-// memory lent to the queue before a Reject comes: that took 70 to 80.
+// Mostly there is room, or there are no components: neither costs a call, which took 25 instructions a message. Where
+// what would be lent to the queue has room for all, it is lent with the first Reject: lent here, it took 32 to 82
+// instructions a step.
 #[tactic(auto, using(crate::proofs::RejectLemmas::fewer))]
 #[inline(always)]
 pub(crate) fn reserve_rejects<A: Allocator + Copy>(
@@ -97,8 +98,8 @@ pub(crate) fn reserve_rejects<A: Allocator + Copy>(
 }
 
 /// `reserve_rejects`, where there are elements and not room for all of them.
-// There is mostly room for none. Where there is some, the components up to the first fault may need no more: to tell
-// that, a few are read once more.
+// What would be lent to the queue is too small, is lent at once, and grows. There is mostly room for none. Where there
+// is some, the components up to the first fault may need no more: to tell that, a few are read once more.
 #[tactic(auto, using(crate::proofs::RejectLemmas::fewer))]
 #[inline(never)]
 fn reserve_some<A: Allocator + Copy>(

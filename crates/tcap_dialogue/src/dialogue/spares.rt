@@ -48,7 +48,8 @@ impl<A: Allocator + Copy> Spares<A> {
         }
     }
 
-    /// Whether a queue holds nothing, and there is memory to be lent to it that has room for so many Rejects.
+    /// Whether a queue has neither components nor memory for them, and what would be lent to it has room for so many
+    /// Rejects.
     #[inline(always)]
     pub(crate) fn can_lend(&self, queue: &Queue<A>, count: usize) -> bool
         ensures { result ≡ true → FindRejectRoom self.now queue.now count }

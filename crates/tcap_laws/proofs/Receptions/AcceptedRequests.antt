@@ -1,5 +1,5 @@
 -- What is known of a request that was accepted, and of one that made an invocation.
-use Rattle.std.proofs.Common.{◌≡◌, ℕ, ℤ, Bool, true, ◌&&◌, List, Option, Some, None, refl, ap, subst}
+use Rattle.std.proofs.Common.{◌≡◌, ℕ, ℤ, true, ◌&&◌, List, Option, Some, None, refl, ap, subst}
 use Rattle.std.proofs.lemmas.Bool.{and_parts}
 use Rattle.tcap_component.specs.Component.{CodeParts}
 use Rattle.tcap_model.specs.Words.Answer.{Answer, is_accepted}

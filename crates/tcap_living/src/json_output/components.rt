@@ -1,7 +1,7 @@
 //! The members of an indication of component handling that closes no invocation.
 
 ghost use Rattle.std.specs.Prelude.{◌≡◌, ◌++◌, OnOk, codes, string_bytes};
-ghost use Rattle.tcap_component.specs.Views.{code_parts, problem_parts};
+ghost use Rattle.tcap_component.specs.Views.{problem_parts};
 ghost use Rattle.tcap_play.specs.Indications.{invoked_indication, more_indication, reject_indication};
 ghost use Rattle.tcap_primitives.specs.OutputViews.{rejector, shown};
 ghost use Rattle.tcap_living.specs.JsonText.{json_by, json_component, json_identifier, json_problem};

@@ -8,8 +8,8 @@ use Rattle.tcap_explain.specs.Walk.{walk}
 use Rattle.tcap_explain.proofs.ListedLemmas.{listed-none}
 use Rattle.tcap_explain.proofs.walk.is_listed.Goals as goal
 
-pub returns-in-List-Elements : goal.returns-in-List-Elements
-returns-in-List-Elements c more =
+pub returns : goal.returns
+returns c more =
     let e = parts c.args.element.now in
     let less : length e.content < length e.whole - c.head_len.result = grind (arith, nat_tests, more) in
     let is : c.args.line ≡ line.List list.Elements = search rules in

@@ -1,6 +1,6 @@
 use Rattle.std.proofs.Common.{◌≡◌, ◌∙◌, Err, None, ap, map, option_map, refl, subst, sym}
 use Rattle.tcap_story_cmd.specs.Command.{DoneFor}
-use Rattle.tcap_story_cmd.specs.CommandLine.{Asked, asked, asked_by}
+use Rattle.tcap_story_cmd.specs.CommandLine.{asked, asked_by}
 use Rattle.tcap_story_cmd.specs.declared.refusal.Refusal.TheVariants as refusal
 use Rattle.tcap_story_cmd.proofs.TellingLemmas.{keeps_none}
 use Rattle.tcap_story_cmd.proofs.command.run_stories.Goals as goal
