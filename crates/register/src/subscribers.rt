@@ -85,7 +85,7 @@ impl Operations<Global> for Subscribers {
         match code {
             Code::Local(SEND_ROUTING_INFO) => Some(Class::One),
             Code::Local(NOTE_PRESENT) => Some(Class::Four),
-            _ => None,
+            Code::Local(_) | Code::Global(_) => None,
         }
     }
 

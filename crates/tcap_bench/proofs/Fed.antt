@@ -1,6 +1,6 @@
 -- The sum over the messages of a stream, some of which were fed.
 use Rattle.std.proofs.Common.{◌≡◌, ◌++◌, ◌∙◌, ℕ, List, [], ◌∷◌, length, map, refl, sym, ap}
-use Rattle.std.proofs.lemmas.List.{append_assoc, append-nil, map-append}
+use Rattle.std.proofs.lemmas.List.{append_assoc, map-append}
 use Rattle.ber_core.specs.Feeding.{Left, StandsBehind}
 use Rattle.ber_core.specs.Stream.{cut_by, cut_of}
 use Rattle.tcap_bench.proofs.Sums.{checksum_append}
@@ -34,8 +34,3 @@ piece-fed bytes left piece more feed later sum added f split a = record {
       ∙ sym (checksum_append 0 (map (λ m. length m) (cut_of f.stream).messages) (map (λ m. length m) a.told))
       ∙ ap (checksum 0) (sym (map-append (λ m. length m) (cut_of f.stream).messages a.told) ∙ ap (map (λ m. length m)) (sym a.takes.messages));
 }
-
--- all was fed
-pub all-fed : (bytes left : List ℕ) (feed : Left) (sum : ℕ) → left ≡ [] → IsFed bytes left feed sum → sum ≡ stream_checksum bytes
-all-fed bytes left feed sum none f =
-    f.is_sum ∙ ap stream_checksum (sym (f.is_joined ∙ ap (λ xs. f.stream ++ xs) none ∙ append-nil f.stream))

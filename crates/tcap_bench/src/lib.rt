@@ -1,7 +1,8 @@
 //! What the benchmark calls: functions for C that read and write messages, and answer a checksum of
 //! what was read or the octets that were written.
 //!
-//! Begin at `tcap_bench_read`. What it answers stands in specs/Checksum.antt.
+//! Stands on the codec, `tcap_dialogue`, `tcap_engine` and the crates below them. Begin at `tcap_bench_read`; what it
+//! answers stands in specs/Checksum.antt.
 #![tactic(auto)]
 
 mod calls;

@@ -63,9 +63,6 @@ passed_judged line then held e rest None (Some x) i n w j same =
     let len : length (e.whole ++ rest) - length rest ≡ length e.whole = omega (arith, length-append e.whole rest) in
     rw (sym same) (subst (λ (k : ℕ). Unmet line (e.whole ++ rest) (further k x)) (sym len) (behind_it line then held e rest x i n w j))
 
-abbrev choice_of : Option Choice → Option Choice
-choice_of o = o
-
 abbrev Inner : List ℕ → Type 0
 Inner bytes = (l : Line) (c : List ℕ) → length c < length bytes → Judged l c (walk l c)
 

@@ -71,7 +71,15 @@ fn head_octets(rest: &[u8]) -> usize
         match read_head(&rest[..count + 1]) {
             Err(BerFault::Short) => {}
             Ok(head) if head.length.is_some() => return rest.len(),
-            _ => return count,
+            Ok(_)
+            | Err(
+                BerFault::BadTag
+                | BerFault::BadLength
+                | BerFault::IndefinitePrimitive
+                | BerFault::TooDeep,
+            ) => {
+                return count;
+            }
         }
     }
     rest.len()

@@ -84,12 +84,12 @@ impl Network {
         let told = engine.receive(from, &self.message).ok()?;
         self.digest.outputs(&told);
         for output in &told {
-            match output {
-                Output::Begin { dialogue, .. } => end.dialogue = *dialogue,
-                Output::Invoked { id, .. } if end.waiting.len() < MOST_WAITING => {
+            if let Output::Begin { dialogue, .. } = output {
+                end.dialogue = *dialogue;
+            } else if let Output::Invoked { id, .. } = output {
+                if end.waiting.len() < MOST_WAITING {
                     end.waiting.push(*id).ok()?;
                 }
-                _ => {}
             }
         }
         Some(())

@@ -10,7 +10,7 @@ use Rattle.tcap_lines.specs.declared.fault.WordFault.TheVariants as fault
 use Rattle.tcap_lines.specs.FaultText.{name_words}
 use Rattle.tcap_lines.specs.Misfit.{or_else, unwritten}
 use Rattle.tcap_lines.specs.Reading.{at_word, walk}
-use Rattle.tcap_lines.specs.Table.{FormWords, LineTable, Wanted, is_listed, names_of, wanted_behind, wanted_by_name, words_named, wanted_words}
+use Rattle.tcap_lines.specs.Table.{FormWords, LineTable, Wanted, is_listed, names_of, wanted_behind, words_named, wanted_words}
 
 -- a word is the name of a form exactly where it has words behind it
 pub named_is : (word : List ℕ) (forms : List FormWords) → is_listed (names_of forms) word ≡ is_some (words_named word forms)
@@ -72,8 +72,3 @@ cut octets first (Some rest) e = e
 pub first_else : (table : LineTable) (first : List ℕ) (rest : List (List ℕ)) → is_listed table.sides first ≡ false
     → wanted_words table (first ∷ rest) ≡ Wanted.any_of (table.sides ++ names_of table.alone) ∷ wanted_behind (words_named first table.alone)
 first_else table first rest is = rw is refl
-
--- what is wanted where it is one
-pub first_side : (table : LineTable) (first : List ℕ) (rest : List (List ℕ)) → is_listed table.sides first ≡ true
-    → wanted_words table (first ∷ rest) ≡ Wanted.any_of (table.sides ++ names_of table.alone) ∷ wanted_by_name table.on_side rest
-first_side table first rest is = rw is refl

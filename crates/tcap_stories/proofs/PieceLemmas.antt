@@ -40,10 +40,6 @@ next_piece first (p ∷ ps) some = ap (λ n. take n (first ∷ (p ∷ ps))) (one
 pub next_output : (text first rest : List ℕ) → pieces 10 text ≡ first ∷ pieces 10 rest → outputs_in text ≡ told first ∷ outputs_in rest
 next_output text first rest e = ap (λ ps. map told (but_last ps)) e ∙ ap (map told) (next_piece first (pieces 10 rest) (some_piece 10 rest))
 
--- behind the last line feed there is none
-pub no_output : (text last : List ℕ) → pieces 10 text ≡ last ∷ [] → outputs_in text ≡ []
-no_output text last e = ap (λ ps. map told (but_last ps)) e
-
 module _ {A : Type 0} where
   texts-more : (old : List (Vec ℕ A)) (t : Vec ℕ A) (outputs : List (List ℕ)) → texts_of (old ++ t ∷ []) ++ outputs ≡ texts_of old ++ (t.items ∷ outputs)
   texts-more [] t outputs = refl

@@ -5,9 +5,8 @@ use Rattle.ber_core.specs.Place.{Slice}
 use Rattle.std.specs.Io.KnownBytes.{Keeps}
 use Rattle.tcap_story_cmd.specs.Counting.{AreCounts, counted}
 use Rattle.tcap_story_cmd.specs.Reading.{AreHalted, AreRead, IsGiven, IsRead}
-use Rattle.tcap_story_cmd.specs.Report.{end_of, front_of}
-use Rattle.tcap_story_cmd.specs.Run.{AreTold, IsTaken, IsText}
-use Rattle.tcap_story_cmd.specs.Stories.{Entry, many, overall, report_by, reports, same_verdict, verdict_by}
+use Rattle.tcap_story_cmd.specs.Run.{AreTold, IsTaken}
+use Rattle.tcap_story_cmd.specs.Stories.{Entry, many, report_by, reports, same_verdict, verdict_by}
 use Rattle.tcap_story_cmd.specs.declared.report_text.Report.{Report}
 use Rattle.tcap_story_cmd.specs.declared.tally.Tally.{Tally}
 use Rattle.tcap_story_cmd.specs.declared.unread.Unread.{Unread}
@@ -133,33 +132,7 @@ pub halted : (report : Report) (octets_of : List ℕ → Option (List ℕ)) (nam
 halted report octets_of names others had mid left before now tally are given =
     record { entries = are.entries; others = others; mid = mid; read = are.read; given = given }
 
--- it was refused before the first
-pub none_halted : (octets_of : List ℕ → Option (List ℕ)) (names : List (List ℕ)) (had : Option (List ℕ)) → AreHalted octets_of names had had
-none_halted octets_of names had = record { entries = []; others = names; mid = had; read = (refl, refl); given = given_none had }
-
 -- no story was told yet
 pub none_told : (report : Report) (octets_of : List ℕ → Option (List ℕ)) (names : List (List ℕ)) (had : Option (List ℕ)) (before : List ℕ) (tally : Tally) → AreCounts tally []
     → AreTold report octets_of names names had had before before tally
 none_told report octets_of names had before tally are = record { entries = []; read = (refl, refl); told = sym (append-nil before); counts = are }
-
--- all were told
-pub all_text : (report : Report) (octets_of : List ℕ → Option (List ℕ)) (names : List (List ℕ)) (had left : Option (List ℕ)) (front now text : List ℕ) (tally : Tally) (v : Verdict)
-    → front ≡ front_of report → AreTold report octets_of names [] had left front now tally
-    → text ≡ now ++ end_of report tally.passed tally.failed tally.not_read → v ≡ overall tally.failed tally.not_read
-    → IsText report octets_of names had left text v
-all_text report octets_of names had left front now text tally v is_front are is_text is_verdict =
-    let es = are.entries in
-    let c = are.counts in
-    let r = reports report es in
-    record {
-      entries = es;
-      read = are.read;
-      told = is_text
-          ∙ (ap (λ t. t ++ end_of report tally.passed tally.failed tally.not_read) are.told
-          ∙ (append_assoc front r (end_of report tally.passed tally.failed tally.not_read)
-          ∙ (ap (λ f. f ++ (r ++ end_of report tally.passed tally.failed tally.not_read)) is_front
-          ∙ (ap (λ n. front_of report ++ (r ++ end_of report n tally.failed tally.not_read)) c.passed
-          ∙ (ap (λ n. front_of report ++ (r ++ end_of report (many verdict.Passed es) n tally.not_read)) c.failed
-          ∙ ap (λ n. front_of report ++ (r ++ end_of report (many verdict.Passed es) (many verdict.Failed es) n)) c.not_read)))));
-      verdict = is_verdict ∙ (ap (λ n. overall n tally.not_read) c.failed ∙ ap (λ n. overall (many verdict.Failed es) n) c.not_read);
-    }

@@ -14,7 +14,7 @@ use std::alloc::Allocator;
 use tcap_pdu::Frame;
 use tcap_words::{
     CanonFault, Shown, Verdict, add_hex, assemble, judge_message, read_message, rewrite_components,
-    rewrite_portion, spell_frame, verdict_text,
+    rewrite_portion, verdict_text,
 };
 
 /// The octets of a message in the canonical form.

@@ -1,10 +1,11 @@
 //! The canonical form of a message's parts.
 
-ghost use Rattle.std.specs.Prelude.{◌≡◌, ◌≤◌, ◌++◌, length, OnOk, IfOk, IfErr, [], unwrap_or, option_copied, option_map};
+ghost use Rattle.std.specs.Prelude.{◌≡◌, ◌≢◌, ◌≤◌, ◌<◌, ◌++◌, List, ℕ, length, OnOk, IfOk, IfErr, [], unwrap_or, option_copied, option_map};
 ghost use Rattle.tcap_pdu.specs.FrameSpelling.{HasCause};
 ghost use Rattle.tcap_pdu.specs.FramePortions.{with_portions};
 ghost use Rattle.tcap_pdu.specs.FrameWritten.{written_frame};
 ghost use Rattle.tcap_pdu.specs.FrameViews.{message};
+ghost use Rattle.tcap_pdu.specs.declared.fault.PduFault.TheVariants as pdu;
 ghost use Rattle.tcap_component.specs.Views.{component_parts, item_view};
 ghost use Rattle.tcap_component.specs.Written.{coded_part, written_component, HasCode, HasParameter};
 ghost use Rattle.tcap_words.specs.Verdict.{message_limit};
@@ -37,6 +38,19 @@ impl From<AllocError> for CanonFault {
     }
 }
 
+/// The fault of a message or a dialogue PDU that was read, and isn't written: its context and its information can be.
+fn canon_fault(fault: PduFault) -> CanonFault
+    requires context { fault ≢ pdu.BadOid }
+    requires information { fault ≢ pdu.BadInfo }
+    ensures { (form : List ℕ) → (fault ≡ pdu.TooLong → message_limit < length form) → IsCanonFault form result }
+{
+    match fault {
+        PduFault::OutOfMemory => CanonFault::OutOfMemory,
+        PduFault::TooLong => CanonFault::TooLong,
+        PduFault::BadOid | PduFault::BadInfo => unreachable!(),
+    }
+}
+
 /// The contents of a dialogue portion in the canonical form, of nothing where they can't be read. What
 /// was read has a context and information that can be written.
 fn rewrite_dialogue<A: Allocator + Copy>(alloc: A, content: &[u8]) -> Result<Vec<u8, A>, CanonFault>
@@ -48,10 +62,7 @@ fn rewrite_dialogue<A: Allocator + Copy>(alloc: A, content: &[u8]) -> Result<Vec
     };
     match write_dialogue(alloc, &pdu) {
         Ok(octets) => Ok(octets),
-        Err(PduFault::OutOfMemory) => Err(CanonFault::OutOfMemory),
-        Err(PduFault::TooLong) => Err(CanonFault::TooLong),
-        Err(PduFault::BadOid) => unreachable!(),
-        Err(PduFault::BadInfo) => unreachable!(),
+        Err(fault) => Err(canon_fault(fault)),
     }
 }
 
@@ -148,9 +159,7 @@ pub fn spell_frame<A: Allocator + Copy>(
 {
     match write_frame(alloc, frame) {
         Ok(octets) => Ok(octets),
-        Err(PduFault::OutOfMemory) => Err(CanonFault::OutOfMemory),
-        Err(PduFault::TooLong) => Err(CanonFault::TooLong),
-        Err(PduFault::BadOid | PduFault::BadInfo) => unreachable!(),
+        Err(fault) => Err(canon_fault(fault)),
     }
 }
 

@@ -1,10 +1,10 @@
 //! The worked examples, computed by the definitions.
 
-ghost use Rattle.std.specs.Prelude.{◌≡◌, pos, ◌+◌, ◌*◌, ◌^◌, [], ◌∷◌, Some, None, true, false};
+ghost use Rattle.std.specs.Prelude.{◌≡◌, pos, ◌+◌, ◌*◌, [], ◌∷◌, Some, None};
 ghost use Rattle.tcap_component.specs.declared.problem.Kind.TheVariants as kind;
 ghost use Rattle.tcap_invocation.specs.declared.class.Class.TheVariants.{One, Two, Three, Four};
 ghost use Rattle.tcap_invocation.specs.declared.fault.AddFault.TheVariants.{InUse, BadTimeout};
-ghost use Rattle.tcap_invocation.specs.declared.invocations.answers.Verdict.TheVariants.{Good, Unexpected, Unknown};
+ghost use Rattle.tcap_invocation.specs.declared.invocations.answers.Verdict.TheVariants.{Unexpected, Unknown};
 ghost use Rattle.tcap_invocation.specs.declared.stage.Stage.TheVariants.{Queued, Sent, Waiting};
 ghost use Rattle.tcap_invocation.specs.Answers.{verdict_on, after_received, rejected_at, after_reject};
 ghost use Rattle.tcap_invocation.specs.Class.Received.{return_result_last, return_result_not_last, return_error};

@@ -6,9 +6,20 @@ use tcap_component::Problem;
 use tcap_engine::{Outbox, Output, OutputRef};
 
 impl Digest {
-    /// Adds what is told of a dialogue.
-    fn dialogue_output(&mut self, output: &Output<'_>) -> bool {
+    /// Adds a Reject that closes no invocation.
+    fn refused(&mut self, kind: u64, dialogue: Option<u32>, id: Option<i8>, problem: Problem) {
+        self.named(kind, dialogue.unwrap_or(0), 0, id.unwrap_or(0));
+        self.problem(problem);
+    }
+
+    /// Adds what is sent or told.
+    // One arm for each kind, so that a new one can't be passed over.
+    fn output(&mut self, output: &Output<'_>) {
         match output {
+            Output::Send { to, bytes } => {
+                self.octets(to.octets());
+                self.octets(bytes.as_slice());
+            }
             Output::Uni { context, info } => self.told(1, 0, *context, info),
             Output::Begin {
                 dialogue,
@@ -36,20 +47,6 @@ impl Digest {
                 self.why(*why);
             }
             Output::Dropped(why) => self.number(300 + *why as u64),
-            _ => return false,
-        }
-        true
-    }
-
-    /// Adds a Reject that closes no invocation.
-    fn refused(&mut self, kind: u64, dialogue: Option<u32>, id: Option<i8>, problem: Problem) {
-        self.named(kind, dialogue.unwrap_or(0), 0, id.unwrap_or(0));
-        self.problem(problem);
-    }
-
-    /// Adds what is told of a component that closes no invocation.
-    fn component_output(&mut self, output: &Output<'_>) -> bool {
-        match output {
             Output::Invoked {
                 dialogue,
                 id,
@@ -71,25 +68,6 @@ impl Digest {
                 self.named(6, *dialogue, *number, *id);
                 self.body(body);
             }
-            Output::LocalReject {
-                dialogue,
-                id,
-                problem,
-            } => self.refused(9, *dialogue, *id, *problem),
-            Output::RemoteReject {
-                dialogue,
-                id,
-                problem,
-                by,
-            } => self.refused(10 + *by as u64, *dialogue, *id, *problem),
-            _ => return false,
-        }
-        true
-    }
-
-    /// Adds what is told of an invocation that is closed.
-    fn closing_output(&mut self, output: &Output<'_>) {
-        match output {
             Output::ResultLast {
                 dialogue,
                 number,
@@ -110,6 +88,17 @@ impl Digest {
                 self.code(code);
                 self.optional(*parameter);
             }
+            Output::LocalReject {
+                dialogue,
+                id,
+                problem,
+            } => self.refused(9, *dialogue, *id, *problem),
+            Output::RemoteReject {
+                dialogue,
+                id,
+                problem,
+                by,
+            } => self.refused(10 + *by as u64, *dialogue, *id, *problem),
             Output::Rejected {
                 dialogue,
                 number,
@@ -130,17 +119,6 @@ impl Digest {
                 number,
                 id,
             } => self.named(14, *dialogue, *number, *id),
-            _ => self.number(0),
-        }
-    }
-
-    /// Adds what is sent or told.
-    fn output(&mut self, output: &Output<'_>) {
-        if let Output::Send { to, bytes } = output {
-            self.octets(to.octets());
-            self.octets(bytes.as_slice());
-        } else if !self.dialogue_output(output) && !self.component_output(output) {
-            self.closing_output(output);
         }
     }
 

@@ -8,8 +8,8 @@ use Rattle.tcap_words.proofs.rewrite.rewrite_dialogue.Goals as goal
 pub write_dialogue-requires : goal.write_dialogue-requires
 write_dialogue-requires g c = spelled_diagnostic (pdu_value c.in-Ok.pdu) c.args.content.now c.in-Ok.ensures.found
 
-pub unreachable-requires : goal.unreachable-requires
-unreachable-requires g c = context_written (pdu_value c.in-Ok.pdu) c.args.content.now c.in-Ok.ensures.found (subst (WriteFault (pdu_value c.in-Ok.pdu)) c.in-Err-BadOid.field-0-is c.in-Err-BadOid.ensures.err)
+pub canon_fault-requires-clause-context : goal.canon_fault-requires-clause-context
+canon_fault-requires-clause-context g c is = context_written (pdu_value c.in-Ok.pdu) c.args.content.now c.in-Ok.ensures.found (subst (WriteFault (pdu_value c.in-Ok.pdu)) is c.in-Err.ensures.err)
 
-pub unreachable-requires-in-Err-BadInfo : goal.unreachable-requires-in-Err-BadInfo
-unreachable-requires-in-Err-BadInfo g c = information_written (pdu_value c.in-Ok.pdu) c.args.content.now c.in-Ok.ensures.found (subst (WriteFault (pdu_value c.in-Ok.pdu)) c.in-Err-BadInfo.field-0-is c.in-Err-BadInfo.ensures.err)
+pub canon_fault-requires-clause-information : goal.canon_fault-requires-clause-information
+canon_fault-requires-clause-information g c is = information_written (pdu_value c.in-Ok.pdu) c.args.content.now c.in-Ok.ensures.found (subst (WriteFault (pdu_value c.in-Ok.pdu)) is c.in-Err.ensures.err)
