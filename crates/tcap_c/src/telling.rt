@@ -1,11 +1,11 @@
 //! An output as numbers in a struct and octets in a room, kind by kind.
 
-ghost use Rattle.std.specs.Prelude.{[], ◌≡◌, true};
+ghost use Rattle.std.specs.Prelude.{◌≡◌};
 ghost use Rattle.tcap_primitives.specs.OutboxReading.{body_read, context_read, info_read, output_read};
 ghost use Rattle.tcap_primitives.specs.OutboxSpans.{BodyFits, PortionFits, RecordFits};
-ghost use Rattle.tcap_c.specs.Laying.{IsLaid, IsOfClosing, IsOfComponent, IsOfPortion, IsOfReject, IsOutputLaid, with_parts};
-ghost use Rattle.tcap_c.specs.Numbers.{bare, closing_of, numbers_of, with_code, with_context, with_parameter};
-ghost use Rattle.tcap_c.specs.Parts.{coded_parts, no_parts, octets_if_any, portion_parts};
+ghost use Rattle.tcap_c.specs.Laying.{IsLaid, IsOutputLaid};
+ghost use Rattle.tcap_c.specs.Numbers.{bare, closing_of, with_code, with_context, with_parameter};
+ghost use Rattle.tcap_c.specs.Parts.{coded_parts, octets_if_any, portion_parts};
 
 use crate::laying::{lay_alone, lay_body, lay_coded, lay_pdu, lay_portion, lay_sent};
 use crate::numbering::{cause_number, drop_number};
@@ -58,14 +58,25 @@ fn lay_kept_body(
     lay_coded(numbers, room, told, code_of(octets, body.code), parameter)
 }
 
-/// An indication with a dialogue portion.
+/// Lays down an output, its event left out, if its octets fit: whether they do.
+// One arm for each kind, so that a new one can't be passed over.
 #[inline(always)]
-fn tell_portion(numbers: &mut OutputNumbers, room: &mut [u8], octets: &[u8], told: &Record) -> bool
-    requires fits { RecordFits octets.now told.now }
-    requires group { IsOfPortion (output_read octets.now told.now) }
-    ensures { IsOutputLaid (output_read octets.now told.now) result numbers.old numbers.new room.old room.new }
+pub(crate) fn tell(
+    numbers: &mut OutputNumbers,
+    room: &mut [u8],
+    octets: &[u8],
+    kept: &Record,
+) -> bool
+    requires { RecordFits octets.now kept.now }
+    ensures { IsOutputLaid (output_read octets.now kept.now) result numbers.old numbers.new room.old room.new }
 {
-    match *told {
+    match *kept {
+        Record::Send { to, bytes } => lay_sent(
+            numbers,
+            room,
+            part(octets, to),
+            part(octets, bytes),
+        ),
         Record::Uni { portion } => {
             let uni = OutputNumbers::bare(OutputKind::Uni);
             lay_kept_portion(numbers, room, uni, octets, portion)
@@ -82,24 +93,14 @@ fn tell_portion(numbers: &mut OutputNumbers, room: &mut [u8], octets: &[u8], tol
             let end = OutputNumbers::bare(OutputKind::End).of_dialogue(dialogue);
             lay_kept_portion(numbers, room, end, octets, portion)
         }
-        // No other is of this group.
-        _ => unreachable!(),
-    }
-}
-
-/// An Invoke, or a result that others follow.
-#[inline(always)]
-fn tell_component(
-    numbers: &mut OutputNumbers,
-    room: &mut [u8],
-    octets: &[u8],
-    told: &Record,
-) -> bool
-    requires fits { RecordFits octets.now told.now }
-    requires group { IsOfComponent (output_read octets.now told.now) }
-    ensures { IsOutputLaid (output_read octets.now told.now) result numbers.old numbers.new room.old room.new }
-{
-    match *told {
+        Record::UAbort { dialogue, pdu } => {
+            let abort = OutputNumbers::bare(OutputKind::UserAbort).of_dialogue(dialogue);
+            lay_pdu(numbers, room, abort, abort_of(octets, pdu))
+        }
+        Record::PAbort { dialogue, why } => {
+            let abort = OutputNumbers::bare(OutputKind::ProviderAbort).of_dialogue(dialogue);
+            lay_alone(numbers, abort.with_cause(cause_number(why)))
+        }
         Record::Invoked {
             dialogue,
             id,
@@ -120,19 +121,6 @@ fn tell_component(
             let result = result.of_invocation(dialogue, number, id);
             lay_body(numbers, room, result, body_of(octets, body))
         }
-        // No other is of this group.
-        _ => unreachable!(),
-    }
-}
-
-/// The closing of an invocation, but by a Reject.
-#[inline(always)]
-fn tell_closing(numbers: &mut OutputNumbers, room: &mut [u8], octets: &[u8], told: &Record) -> bool
-    requires fits { RecordFits octets.now told.now }
-    requires group { IsOfClosing (output_read octets.now told.now) }
-    ensures { IsOutputLaid (output_read octets.now told.now) result numbers.old numbers.new room.old room.new }
-{
-    match *told {
         Record::ResultLast {
             dialogue,
             number,
@@ -151,28 +139,6 @@ fn tell_closing(numbers: &mut OutputNumbers, room: &mut [u8], octets: &[u8], tol
             let error = closing(OutputKind::Error, dialogue, number, id);
             lay_kept_body(numbers, room, error, octets, body)
         }
-        Record::Lapsed {
-            dialogue,
-            number,
-            id,
-        } => lay_alone(numbers, closing(OutputKind::Cancel, dialogue, number, id)),
-        Record::Ended {
-            dialogue,
-            number,
-            id,
-        } => lay_alone(numbers, closing(OutputKind::Closed, dialogue, number, id)),
-        // No other is of this group.
-        _ => unreachable!(),
-    }
-}
-
-/// A Reject.
-#[inline(always)]
-fn tell_reject(numbers: &mut OutputNumbers, told: &Record) -> bool
-    requires { IsOfReject (output_read [] told.now) }
-    ensures { (result ≡ true) × (numbers.new ≡ with_parts no_parts (numbers_of (output_read [] told.now))) }
-{
-    match *told {
         Record::LocalReject {
             dialogue,
             id,
@@ -201,49 +167,16 @@ fn tell_reject(numbers: &mut OutputNumbers, told: &Record) -> bool
             let reject = closing(OutputKind::of_rejected(by), dialogue, number, id);
             lay_alone(numbers, reject.with_problem(problem))
         }
-        // No other is of this group.
-        _ => unreachable!(),
-    }
-}
-
-/// Lays down an output, its event left out, if its octets fit: whether they do.
-#[inline(always)]
-pub(crate) fn tell(
-    numbers: &mut OutputNumbers,
-    room: &mut [u8],
-    octets: &[u8],
-    kept: &Record,
-) -> bool
-    requires { RecordFits octets.now kept.now }
-    ensures { IsOutputLaid (output_read octets.now kept.now) result numbers.old numbers.new room.old room.new }
-{
-    match *kept {
-        Record::Send { to, bytes } => lay_sent(
-            numbers,
-            room,
-            part(octets, to),
-            part(octets, bytes),
-        ),
-        Record::Uni { .. } | Record::Begin { .. } | Record::Continue { .. } | Record::End { .. } =>
-            tell_portion(numbers, room, octets, kept),
-        Record::UAbort { dialogue, pdu } => {
-            let abort = OutputNumbers::bare(OutputKind::UserAbort).of_dialogue(dialogue);
-            lay_pdu(numbers, room, abort, abort_of(octets, pdu))
-        }
-        Record::PAbort { dialogue, why } => {
-            let abort = OutputNumbers::bare(OutputKind::ProviderAbort).of_dialogue(dialogue);
-            lay_alone(numbers, abort.with_cause(cause_number(why)))
-        }
-        Record::Invoked { .. } | Record::ResultMore { .. } => {
-            tell_component(numbers, room, octets, kept)
-        }
-        Record::ResultLast { .. }
-        | Record::ErrorBack { .. }
-        | Record::Lapsed { .. }
-        | Record::Ended { .. } => tell_closing(numbers, room, octets, kept),
-        Record::LocalReject { .. } | Record::RemoteReject { .. } | Record::Rejected { .. } => {
-            tell_reject(numbers, kept)
-        }
+        Record::Lapsed {
+            dialogue,
+            number,
+            id,
+        } => lay_alone(numbers, closing(OutputKind::Cancel, dialogue, number, id)),
+        Record::Ended {
+            dialogue,
+            number,
+            id,
+        } => lay_alone(numbers, closing(OutputKind::Closed, dialogue, number, id)),
         Record::Dropped(why) => {
             let dropped = OutputNumbers::bare(OutputKind::Dropped);
             lay_alone(numbers, dropped.with_cause(drop_number(why)))
