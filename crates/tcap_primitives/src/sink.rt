@@ -104,14 +104,20 @@ impl<'m, A: Allocator + Copy> Sink<'m, A, ToOutbox> {
         }
     }
 
-    /// The outbox.
+    /// Puts the outbox back where it came from.
+    // Answered by value it was moved twice on its way, 10 to 24 instructions a step.
     #[inline(always)]
-    pub fn into_outbox(self) -> Outbox<A>
-        ensures outputs { result.outputs ≡ self.entry.outputs }
-        ensures places { result.places ≡ self.entry.places }
-        ensures octets { result.octets ≡ self.entry.octets }
+    pub fn give_back(self, place: &mut Outbox<A>)
+        ensures outputs { place.new.outputs ≡ self.entry.outputs }
+        ensures places { place.new.places ≡ self.entry.places }
+        ensures octets { place.new.octets ≡ self.entry.octets }
     {
-        self.outbox
+        let Sink {
+            vector: _vector,
+            outbox,
+            kind: _kind,
+        } = self;
+        *place = outbox;
     }
 }
 
