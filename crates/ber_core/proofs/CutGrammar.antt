@@ -153,9 +153,6 @@ cut-longer stream piece =
     ap cut_of is ∙ (cut-joined h.elements ((cut_of stream).rest ++ piece) h.each
     ∙ ap (λ (ms : List (List ℕ)). after_messages ms (cut_of ((cut_of stream).rest ++ piece))) (sym h.are_messages))
 
-abbrev long_fault : Bool → Option FeedFault
-long_fault t = cond t (Some TooLong) None
-
 fault-longer : (why : BerFault) (rest piece : List ℕ) (f : FeedFault) → ElementFault 32 (front rest) why → rest_fault why rest ≡ Some f → cut_of (rest ++ piece) ≡ cut_into [] (rest ++ piece) (Some f)
 fault-longer why rest piece f h is =
     elim (cases_lt 65535 (length rest)) [

@@ -26,7 +26,7 @@ pub struct PartPlace {
 pub struct OutputNumbers {
     /// The number of the event that it answers, from 1 on.
     pub event: u64,
-    /// The number of the invocation, that the TC-INVOKE request answered.
+    /// The number of the invocation, which the TC-INVOKE request answered.
     pub number: u64,
     /// The address to which a message goes.
     pub address: PartPlace,
@@ -38,7 +38,7 @@ pub struct OutputNumbers {
     pub info: PartPlace,
     /// 0: no code; 1: a local one; 2: a global one.
     pub code_kind: u32,
-    /// A local operation or error code.
+    /// A local operation or error code, -2^31 to 2^31 - 1.
     pub local: i32,
     /// The contents octets of a global operation or error code.
     pub global: PartPlace,
@@ -65,7 +65,9 @@ pub struct OutputNumbers {
     pub closes: bool,
     /// It is the last output of its event.
     pub is_last: bool,
+    /// It has an application context name.
     pub has_context: bool,
+    /// It has a parameter.
     pub has_parameter: bool,
     /// Protocol version 1 is among the versions of the dialogue PDU.
     pub is_version1: bool,
@@ -80,11 +82,17 @@ pub struct OutputNumbers {
 /// How many octets each part of an output has, in the order in which they stand in the room.
 #[derive(Clone, Copy)]
 pub struct PartLengths {
+    /// The address to which a message goes, at most 255.
     pub address: usize,
+    /// The message that is sent.
     pub message: usize,
+    /// The application context name.
     pub context: usize,
+    /// The user information.
     pub info: usize,
+    /// A global operation or error code.
     pub global: usize,
+    /// The parameter's element.
     pub parameter: usize,
 }
 

@@ -31,7 +31,20 @@ fn act(rt: &HostRuntime, output: &Output<'_>) -> anyhow::Result<()> {
         }
         Output::ResultLast { number, .. } => println!(rt; "invocation {number} has its result")?,
         Output::Lapsed { number, .. } => println!(rt; "invocation {number} was not answered")?,
-        other => println!(rt; "{other:?}")?,
+        Output::Uni { .. }
+        | Output::Begin { .. }
+        | Output::Continue { .. }
+        | Output::End { .. }
+        | Output::UAbort { .. }
+        | Output::PAbort { .. }
+        | Output::Dropped(_)
+        | Output::Invoked { .. }
+        | Output::ResultMore { .. }
+        | Output::ErrorBack { .. }
+        | Output::LocalReject { .. }
+        | Output::RemoteReject { .. }
+        | Output::Rejected { .. }
+        | Output::Ended { .. } => println!(rt; "{output:?}")?,
     }
     Ok(())
 }

@@ -10,13 +10,13 @@ pub mod contents;
 use std::alloc::{Allocator, Global};
 use tcap_invocation::Class;
 
-/// The greatest number of octets of a queue (our own).
+/// The most octets of a queue, 60,000 (our own).
 pub const MAX_QUEUE: usize = 60_000;
 
 /// The invocation that an Invoke asks for.
 #[derive(Clone, Copy, Debug)]
 pub struct Invoking {
-    /// Its number, drawn by the engine.
+    /// Its number, which the TC-INVOKE request answered; the engine draws none twice.
     pub number: u64,
     /// The class of its operation.
     pub class: Class,

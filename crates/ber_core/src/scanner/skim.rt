@@ -183,15 +183,18 @@ fn skim(nested: u8, bytes: &[u8]) -> (Option<Scanner>, &[u8])
 {
     let (next, after) = skim_plain(nested, bytes);
     // Where none is open, a message begins: a call for its one head wouldn't pay in a feed.
-    match next {
-        Some(
-            Scanner {
-                due: Due::Tag,
-                nested: open,
-            },
-        ) if open > 0 => skim_whole(open, after),
-        _ => (next, after),
+    if let Some(
+        Scanner {
+            due: Due::Tag,
+            nested: open,
+        },
+    ) = next
+    {
+        if open > 0 {
+            return skim_whole(open, after);
+        }
     }
+    (next, after)
 }
 
 impl Scanner {

@@ -80,15 +80,17 @@ impl Scanner {
             × ((more : List ℕ) → goes_on self (octet ∷ (bytes.now ++ more)) ≡ Err f)) }
         ensures shorter { IfOk result (λ r. length r.1.now ≤ length bytes.now) }
     {
-        match self.take(octet)? {
-            Some(
-                Scanner {
-                    due: Due::Content(left),
-                    nested,
-                },
-            ) => Ok(pass(nested, left, bytes)),
-            next => Ok((next, bytes)),
+        let next = self.take(octet)?;
+        if let Some(
+            Scanner {
+                due: Due::Content(left),
+                nested,
+            },
+        ) = next
+        {
+            return Ok(pass(nested, left, bytes));
         }
+        Ok((next, bytes))
     }
 
     /// Takes octets until the element is whole, and gives what follows it; or takes them all, and gives

@@ -9,7 +9,7 @@ use crate::component::parts::tag_of;
 use crate::problem::Problem;
 use crate::tag;
 
-/// How many octets a Reject has at most.
+/// The most octets that a Reject has, 8 (Q.773, Reject component).
 pub const MAX_REJECT: usize = 8;
 
 /// The octets of a Reject in the canonical form, and how many of them it has; it takes no memory

@@ -175,7 +175,7 @@ impl<A: Allocator + Copy> Dialogue<A> {
         tell_ended(self.identifier, &mut self.invocations, sink);
     }
 
-    /// How many Sent invocations have a deadline at most the clock.
+    /// How many Sent invocations have a deadline at most the clock, in milliseconds.
     pub fn due_count(&self, clock: u64) -> usize
         ensures { result ≡ length (due_at clock self.now.invocations.rows) }
     {
@@ -189,7 +189,7 @@ impl<A: Allocator + Copy> Dialogue<A> {
         self.invocations.first_due(clock)
     }
 
-    /// Takes out the Sent invocation with the identifier, if its deadline is at most the clock.
+    /// Takes out the Sent invocation with the identifier, if its deadline is at most the clock, in milliseconds.
     pub fn lapse_one(&mut self, id: i8, clock: u64) -> Option<Lapse>
         ensures lapse { result ≡ lapse_at clock self.old.invocations.rows id }
         ensures dialogue { self.new ≡ with_invocations self.old (after_lapse_one self.old.invocations id clock) }
@@ -202,7 +202,7 @@ impl<A: Allocator + Copy> Dialogue<A> {
         self.invocations.lapse_one(id, clock)
     }
 
-    /// Frees each identifier whose wait is over at the clock.
+    /// Frees each identifier whose wait is over at the clock, in milliseconds.
     pub fn free_due(&mut self, clock: u64)
         ensures { self.new ≡ with_invocations self.old (after_free_due self.old.invocations clock) }
     {

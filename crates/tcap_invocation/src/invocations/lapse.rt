@@ -15,9 +15,9 @@ use std::alloc::Allocator;
 pub struct Lapse {
     /// The moment at which it lapses, in milliseconds, at most 2^63.
     pub deadline: u64,
-    /// Its number.
+    /// Its number, which the TC-INVOKE request answered.
     pub number: u64,
-    /// Its invoke identifier.
+    /// Its invoke identifier, -128 to 127.
     pub id: i8,
 }
 

@@ -29,7 +29,7 @@ impl<A: Allocator + Copy> Queue<A> {
 
     /// Appends a component that can be written, has so many octets, and for which there is room: it is
     /// written straight into the queue's octets.
-    // Inlined for the reason that room.rt gives.
+    // Inlined for the reason that contents.rt gives.
     #[inline(always)]
     pub fn append_component(
         &mut self,
