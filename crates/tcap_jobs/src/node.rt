@@ -161,8 +161,11 @@ pub(crate) fn begun(told: &[Output<'_>]) -> u32 {
 
 /// The dialogue that begins with what an outbox holds, 0 where none does.
 fn begun_in(outbox: &Outbox) -> u32 {
-    if let Some(OutputRef::Indication(Indication::Begin { dialogue, .. })) = outbox.get(0) {
-        return dialogue;
-    }
-    0
+    let Some(output) = outbox.get(0) else {
+        return 0;
+    };
+    let OutputRef::Indication(Indication::Begin { dialogue, .. }) = output else {
+        return 0;
+    };
+    dialogue
 }
