@@ -1,5 +1,5 @@
 -- The cut of a stream is its messages, its rest and its fault, and there is no other.
-use Rattle.std.proofs.Common.{◌≡◌, ℕ, zero, suc, ◌+◌, ◌-◌, ◌<◌, ◌≤◌, Bool, true, false, cond, List, [], ◌∷◌, ◌++◌, length, map, take, drop, Option, Some, None, Ok, Err, Result, refl, sym, ap, subst, ◌∙◌, inl, inr, arith, append_assoc}
+use Rattle.std.proofs.Common.{◌≡◌, ℕ, zero, suc, ◌+◌, ◌-◌, ◌<◌, ◌≤◌, Bool, true, false, List, [], ◌∷◌, ◌++◌, length, map, take, drop, Option, Some, None, Ok, Err, Result, refl, sym, ap, subst, ◌∙◌, inl, inr, arith, append_assoc}
 use Rattle.std.proofs.lemmas.Bool.{cases_lt, lt-ltb, le-ltb}
 use Rattle.std.proofs.lemmas.List.{take-append-drop, drop_at, length-append, length-take, length-drop, append-nil, take_all, take-append-le}
 use Rattle.std.proofs.Math.Seq.{take-append-add}
@@ -7,7 +7,7 @@ use Rattle.std.specs.List.{AllByRecursion}
 use Rattle.ber_core.specs.declared.fault.BerFault.{BerFault}
 use Rattle.ber_core.specs.declared.fault.BerFault.TheVariants.{Short}
 use Rattle.ber_core.specs.declared.fault.FeedFault.{FeedFault}
-use Rattle.ber_core.specs.declared.fault.FeedFault.TheVariants.{Ber, TooLong}
+use Rattle.ber_core.specs.declared.fault.FeedFault.TheVariants.{Ber}
 use Rattle.ber_core.specs.Element.{Parts, IsElement, joined}
 use Rattle.ber_core.specs.Fault.{ElementFault}
 use Rattle.ber_core.specs.Fault.HeadFault.{no_tag}

@@ -8,9 +8,9 @@ use tcap_living::Format;
 pub struct Settings {
     /// What the engine keeps to.
     pub limits: Limits,
-    /// The identifier of the first dialogue, 0 to 4,294,967,295.
+    /// The identifier of the first dialogue, 0 to 4,294,967,295; the greatest is given to none.
     pub first_dialogue: u32,
-    /// The number of the first invocation, 0 to 2^64 - 1.
+    /// The number of the first invocation, 0 to 2^64 - 1; the greatest is given to none.
     pub first_number: u64,
 }
 

@@ -104,10 +104,10 @@ impl<'m, A: Allocator + Copy> Sink<'m, A, ToOutbox> {
         }
     }
 
-    /// Puts the outbox back where it came from.
+    /// Puts its outbox into this place.
     // Answered by value it was moved twice on its way, 10 to 24 instructions a step.
     #[inline(always)]
-    pub fn give_back(self, place: &mut Outbox<A>)
+    pub fn put_back(self, place: &mut Outbox<A>)
         ensures outputs { place.new.outputs ≡ self.entry.outputs }
         ensures places { place.new.places ≡ self.entry.places }
         ensures octets { place.new.octets ≡ self.entry.octets }

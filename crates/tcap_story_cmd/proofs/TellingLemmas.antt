@@ -16,11 +16,6 @@ use Rattle.tcap_story_cmd.specs.declared.verdict.Verdict.TheVariants as verdict
 abbrev pub entry : List ℕ → Result (List ℕ) Unread → Entry
 entry name input = record { name = name; input = input }
 
--- nothing was given
-pub given_none : (known : Option (List ℕ)) → IsGiven known known
-given_none None = record { octets = []; given = tt; fits = omega arith }
-given_none (Some xs) = record { octets = []; given = refl; fits = omega arith }
-
 -- one story more was read
 pub read_more : (octets_of : List ℕ → Option (List ℕ)) (names : List (List ℕ)) (es : List Entry) (name : List ℕ) (others : List (List ℕ)) (had mid left : Option (List ℕ)) (input : Result (List ℕ) Unread)
     → AreRead octets_of names es (name ∷ others) had mid → IsRead octets_of name mid left input

@@ -43,7 +43,7 @@ impl<A: Allocator + Copy> Engine<A> {
         let alloc = self.table.allocator();
         let mut sink = Sink::outbox(alloc, mem::replace(outbox, Outbox::new(alloc)));
         let received = self.receive_with(from, bytes, &mut sink);
-        sink.give_back(outbox);
+        sink.put_back(outbox);
         received
     }
 
@@ -60,7 +60,7 @@ impl<A: Allocator + Copy> Engine<A> {
         let alloc = self.table.allocator();
         let mut sink = Sink::outbox(alloc, mem::replace(outbox, Outbox::new(alloc)));
         let advanced = self.advance_with(now, &mut sink);
-        sink.give_back(outbox);
+        sink.put_back(outbox);
         advanced
     }
 
@@ -214,7 +214,7 @@ impl<A: Allocator + Copy> Engine<A> {
         let alloc = self.table.allocator();
         let mut sink = Sink::outbox(alloc, mem::replace(outbox, Outbox::new(alloc)));
         let accepted = self.request_with(dialogue, request, &mut sink);
-        sink.give_back(outbox);
+        sink.put_back(outbox);
         told(accepted)
     }
 }

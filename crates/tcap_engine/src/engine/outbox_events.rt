@@ -131,7 +131,7 @@ impl<A: Allocator + Copy> Engine<A> {
         let alloc = self.table.allocator();
         let mut sink = Sink::outbox(alloc, mem::replace(outbox, Outbox::new(alloc)));
         let accepted = self.request_with(dialogue, &request, &mut sink);
-        sink.give_back(outbox);
+        sink.put_back(outbox);
         answered(accepted)
     }
 

@@ -9,7 +9,7 @@ pub returns-clause-moves : goal.returns-clause-moves
 returns-clause-moves g c =
     let from : c.args.outbox.now.outputs ≡ c.outbox-sink.result.outputs = sym (c.outbox-sink.ensures.outputs ∙ ap (λ (o : Contents). o.outputs) c.replace.ensures.value) in
     let m : EngineMoved = engine_move c.args.self.now (model.Event.on_dialogue c.args.dialogue (request_view c.args.request)) in
-    rw (from, c.give_back.ensures.outputs)
+    rw (from, c.put_back.ensures.outputs)
     (c.answered.ensures.moves c.outbox-sink.result.outputs c.request_with-accepted.new.sink.outputs m c.args.self.now c.request_with-accepted.new.self c.request_with-accepted.ensures.moves)
 
 pub returns-clause-memory : goal.returns-clause-memory
@@ -20,5 +20,5 @@ returns-clause-memory g c =
 pub returns-clause-stands : goal.returns-clause-stands
 returns-clause-stands g c = λ h at.
     let from : c.args.outbox.now.outputs ≡ c.outbox-sink.result.outputs = sym (c.outbox-sink.ensures.outputs ∙ ap (λ (o : Contents). o.outputs) c.replace.ensures.value) in
-    rw (from, c.give_back.ensures.outputs)
+    rw (from, c.put_back.ensures.outputs)
     (c.answered.ensures.stands c.outbox-sink.result.outputs c.request_with-accepted.new.sink.outputs h (model.Event.on_dialogue c.args.dialogue (request_view c.args.request)) c.request_with-accepted.new.self (c.request_with-accepted.ensures.stands h at))
