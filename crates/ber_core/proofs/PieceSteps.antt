@@ -18,9 +18,6 @@ pub record IsTold (begun piece : List ℕ) (told : List (List ℕ)) (s : Scanner
   pub under_way : IsUnderWay s held
   pub is_held : held ≡ still_begun told begun
 
-pub IsTold-first : (begun piece : List ℕ) (s : Scanner) → IsUnderWay s begun → IsTold begun piece [] s begun piece
-IsTold-first begun piece s h = record { cuts = refl; under_way = h; is_held = refl }
-
 message-after : (told : List (List ℕ)) (message : List ℕ) (cut : Cut) → after_messages told (with_message message cut) ≡ after_messages (told ++ (message ∷ [])) cut
 message-after told message cut = ap (λ (ms : List (List ℕ)). cut_into ms cut.rest cut.fault) (sym (append_assoc told (message ∷ []) cut.messages))
 
