@@ -66,11 +66,13 @@ fn serve_line<W: Write, E: Write>(
             write_sends(alloc, &served.answered, out)?;
             Ok(true)
         }
-        Some(Line::Moment(moment)) => match register.advance(moment) {
-            Ok(_) => Ok(true),
-            Err(Fault::OutOfMemory) => Err(Refusal::OutOfMemory),
-            Err(_) => Ok(false),
-        },
+        Some(Line::Moment(moment)) => {
+            let told = register.advance(moment);
+            if let Err(Fault::OutOfMemory) = told {
+                return Err(Refusal::OutOfMemory);
+            }
+            Ok(told.is_ok())
+        }
         Some(Line::Nothing) => Ok(true),
         None => Ok(false),
     }

@@ -118,10 +118,13 @@ pub(crate) fn likely_fault(bytes: &[u8]) -> Option<(usize, BerFault)>
     if place == bytes.len() {
         return Some((place, BerFault::Short));
     }
-    match read_element(&bytes[..place + 1]) {
-        Ok(_) | Err(BerFault::Short) => None,
-        Err(fault) => Some((place, fault)),
+    let Err(fault) = read_element(&bytes[..place + 1]) else {
+        return None;
+    };
+    if let BerFault::Short = fault {
+        return None;
     }
+    Some((place, fault))
 }
 
 /// The front that is looked at next, by its length: the likely one, that with an octet more, then the middle.

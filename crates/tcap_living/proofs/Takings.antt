@@ -131,9 +131,6 @@ module _ {A : Type 0} {format : Format} (start : History) where
       }
 
       module _ (next : Session A) (after : Option (List ℕ)) (does : AnswersHeld format start lines now next mid after) (part : List ℕ) (more : Option Slice) (cut : pieces 10 octets.now ≡ part ∷ pieces_left 10 more) where
-        more_told : List (List ℕ)
-        more_told = taking.told ++ (line ∷ [])
-
         more_prints : Appends before after (text_from format (1 + length answered) (history_from start answered) (taking.told ++ (line ∷ [])))
         more_prints =
             let number : 1 + length lines ≡ (1 + length answered) + length taking.told = omega (arith, length-append {A = List ℕ} answered taking.told) in

@@ -2,7 +2,7 @@
 use Rattle.tcap_model.specs.Words.Output.{Output}
 use Rattle.tcap_primitives.specs.OutboxReading.{output_read}
 use Rattle.tcap_primitives.specs.OutboxSpans.{RecordFits}
-use Rattle.tcap_primitives.specs.declared.outbox.kept.KeptOutput.{KeptOutput}
+use Rattle.tcap_primitives.specs.declared.outbox.kept_output.KeptOutput.{KeptOutput}
 
 -- What is sent or told, by what its octets hold (own).
 abbrev pub kept_view : KeptOutput → Output

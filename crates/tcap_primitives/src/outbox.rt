@@ -8,7 +8,7 @@ ghost use Rattle.tcap_primitives.specs.OutboxViews.{output_ref_view, outputs_lef
 mod indications;
 mod iter;
 mod keeping;
-pub(crate) mod kept;
+pub(crate) mod kept_output;
 pub(crate) mod output_ref;
 pub(crate) mod records;
 mod room;

@@ -12,8 +12,6 @@ use Rattle.tcap_model.specs.Words.Answer.{Answer}
 use Rattle.tcap_model.specs.Words.Event.{Event}
 use Rattle.tcap_record.specs.Records.{record_of, log_of, HasRecord, AllHaveRecords}
 use Rattle.tcap_record.specs.declared.fault.ReplayFault.{ReplayFault}
-use Rattle.tcap_record.specs.declared.replaying.Stop.{Stop}
-use Rattle.tcap_record.specs.declared.replaying.Stop.TheVariants as stops
 use Rattle.tcap_record.specs.Replaying.{Replayed, ReplayedOne}
 use Rattle.tcap_record.proofs.RecordLaws.{one_log}
 

@@ -27,9 +27,6 @@ key-pushed (e ∷ keys) id key q none = go (nat_eq id e.0) refl (nat_eq q e.0) r
 module _ {T : Type 0} (keys : List (ℕ × ℕ)) (values : Slab T) (timers : List (Option Timer)) (sound : IsSound keys values timers) where
   -- More room and further items.
   module _ (room : Slab T) (same : room ≡ record values { capacity = room.capacity }) (more : List (Option Timer)) (x : IsExtended timers more) where
-    same-values : (k : ℕ) → get room k ≡ get values k
-    same-values k = ap (λ s. get s k) same
-
     pub rows-roomy : all_rows keys room more ≡ all_rows keys values timers
     rows-roomy = ap (λ s. all_rows keys s more) same ∙ rows-extended keys values timers sound.tied more x
 

@@ -14,8 +14,8 @@ returns-then-place-bytes-clause-place c =
     let opened : is_open (take n bytes) ≡ true = search rules in
     all ∙ told-end bytes (ap is_open (sym (take-length bytes)) ∙ subst (λ m. is_open (take m bytes) ≡ true) all opened)
 
-pub returns-in-Err : goal.returns-in-Err
-returns-in-Err c =
+pub returns : goal.returns
+returns c =
     let bytes = c.args.bytes.now in
     let n = c.likely_place-place.result in
     let low : n < length bytes = grind (arith, c.if-place-bytes.false, c.likely_place-place.ensures) in
