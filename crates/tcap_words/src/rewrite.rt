@@ -42,7 +42,8 @@ impl From<AllocError> for CanonFault {
 fn canon_fault(fault: PduFault) -> CanonFault
     requires context { fault ≢ pdu.BadOid }
     requires information { fault ≢ pdu.BadInfo }
-    ensures { (form : List ℕ) → (fault ≡ pdu.TooLong → message_limit < length form) → IsCanonFault form result }
+    ensures { (form : List ℕ) → (fault ≡ pdu.TooLong → message_limit < length form)
+        → IsCanonFault form result }
 {
     match fault {
         PduFault::OutOfMemory => CanonFault::OutOfMemory,

@@ -1,4 +1,4 @@
-//! What the queue holds: whether a component comes into it, and room for it; all its octets, which go out with a message.
+//! What the queue holds: whether a component comes into it, and room for it; all its octets, as a message takes them.
 
 // Hints to inline: each step of an engine runs through it; docs/PERF.md says what the whole of it inlined gains.
 
