@@ -8,9 +8,9 @@ abbrev pub HasRejectRoom : {A : Type 0} → Queue A → ℕ → Type 0
 HasRejectRoom queue count = (vec_len queue.octets + 8 * count ≤ vec_capacity queue.octets)
     × (vec_len queue.parts + count ≤ vec_capacity queue.parts)
 
--- A queue has neither components nor memory for their octets (own).
+-- A queue has neither components nor memory for them (own).
 abbrev pub IsBare : {A : Type 0} → Queue A → Type 0
-IsBare queue = (vec_capacity queue.octets ≡ 0) × (vec_len queue.parts ≡ 0)
+IsBare queue = (vec_capacity queue.octets ≡ 0) × (vec_capacity queue.parts ≡ 0)
 
 -- A queue that has neither components nor memory is lent, with the first Reject, what a queue left that had room for
 -- so many (own).
