@@ -2,7 +2,7 @@
 
 // Its calls are inlined: apart they moved the address twice more, 60 instructions a turn of `register`.
 
-ghost use Rattle.std.specs.Prelude.{◌≡◌, ◌≤◌, ◌<◌, ◌↔◌, [], IfOk, IsTrue, OnOk, OnErr, length, true, option_copied, None};
+ghost use Rattle.std.specs.Prelude.{◌≡◌, ◌≤◌, ◌<◌, ◌↔◌, [], IfOk, IsTrue, OnOk, OnErr, length, take, true, option_copied, None};
 ghost use Rattle.tcap_dialogue.specs.KeptOctets.{IsKept, kept_octets, most_in_place};
 ghost use Rattle.tcap_primitives.specs.ContextViews.{context_view};
 ghost use Rattle.tcap_model.specs.Procedures.Refusals.{can_name};
@@ -18,14 +18,31 @@ use tcap_primitives::Context;
 // With them an address is 32 octets, what the vector of a longer one takes with its tag.
 const MOST_IN_PLACE: usize = 30;
 
+/// An address of at most 30 octets: the first `len` of these, those behind mean nothing.
+#[derive(Drop)]
+struct Short {
+    len: u8,
+    octets: [u8; MOST_IN_PLACE],
+}
+
+impl Short {
+    /// Becomes an address of so few octets.
+    #[inline(always)]
+    fn set(&mut self, octets: &[u8])
+        requires { length octets.now ≤ most_in_place }
+        ensures value { take self.new.len self.new.octets ≡ octets.now }
+        ensures within { self.new.len ≤ most_in_place }
+    {
+        self.octets[..octets.len()].copy_from_slice(octets);
+        self.len = octets.len() as u8;
+    }
+}
+
 /// Where the octets of an address are.
 #[derive(Drop)]
 enum Held<A: Allocator + Copy> {
-    /// Here: the first `len` are the address, those behind mean nothing.
-    InPlace {
-        len: u8,
-        octets: [u8; MOST_IN_PLACE],
-    },
+    /// Here.
+    InPlace(Short),
     /// In a block of memory of their own.
     Apart(Vec<u8, A>),
 }
@@ -64,10 +81,10 @@ impl<A: Allocator + Copy> KeptAddress<A> {
         ensures { result ≡ [] }
     {
         KeptAddress {
-            held: Held::InPlace {
+            held: Held::InPlace(Short {
                 len: 0,
                 octets: [0; MOST_IN_PLACE],
-            },
+            }),
         }
     }
 
@@ -94,7 +111,7 @@ impl<A: Allocator + Copy> KeptAddress<A> {
         ensures within { length result.now ≤ 255 }
     {
         match &self.held {
-            Held::InPlace { len, octets } => &octets[..usize::from(*len)],
+            Held::InPlace(short) => &short.octets[..usize::from(short.len)],
             Held::Apart(octets) => octets,
         }
     }
@@ -116,7 +133,22 @@ impl<A: Allocator + Copy> KeptAddress<A> {
         requires { length address.now ≤ most_in_place }
         ensures { self.new ≡ address.now }
     {
-        self.held = in_place(address.octets());
+        let octets = address.octets();
+        // Where it stands, if one stands there: made apart it was moved twice, 10 to 17 instructions a step.
+        match &mut self.held {
+            Held::InPlace(short) => short.set(octets),
+            Held::Apart(_) => self.give_up_block(octets),
+        }
+    }
+
+    /// `set_short`, where the one before has a block of its own.
+    // Not inlined: with it, what takes a Begin would grow beyond what the toolchain inlines.
+    #[inline(never)]
+    fn give_up_block(&mut self, octets: &[u8])
+        requires { length octets.now ≤ most_in_place }
+        ensures { self.new ≡ octets.now }
+    {
+        self.held = in_place(octets);
     }
 }
 
@@ -135,12 +167,13 @@ fn in_place<A: Allocator + Copy>(octets: &[u8]) -> Held<A>
     ensures value { kept_octets result ≡ octets.now }
     ensures kept { IsKept result }
 {
+    // Not by `set`: with it, what takes a Begin would grow beyond what the toolchain inlines, 105 instructions a step.
     let mut place = [0; MOST_IN_PLACE];
     place[..octets.len()].copy_from_slice(octets);
-    Held::InPlace {
+    Held::InPlace(Short {
         len: octets.len() as u8,
         octets: place,
-    }
+    })
 }
 
 /// What a dialogue keeps of a Begin for good: the address of the peer, and the context.
