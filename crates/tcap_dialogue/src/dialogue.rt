@@ -42,7 +42,9 @@ pub struct Step<'m, A: Allocator = Global> {
 ///   time: `lapse`; or timer by timer `expire_first`; or one by one `due_count`, `first_due`, `lapse_one`
 ///   and `free_due`; the end of one that was idle too long: `abort_idle`, or one by one `open_count`,
 ///   `close_one`; or it is postponed by `touch`.
-/// - Getters: `identifier`, `state`, `peer`, `kept`, `check_invoke`, `next_timer`, `idle_at`.
+/// - Into a sink: `ask_with`, `receive_begin_with` and `take_frame_with`, with the memory that other dialogues left
+///   (`Spares`); `take_faulty`. `leave_memory` leaves its own memory to others.
+/// - Getters: `identifier`, `state`, `peer`, `kept`, `check_invoke`, `message_length`, `next_timer`, `idle_at`.
 ///
 /// Moments are in milliseconds by the caller's clock, at most 2^62. A contract sees the identifier,
 /// state, context, queue, invocations, idle limit, last activity and the peer's address, and forgets
@@ -74,7 +76,12 @@ impl<A: Allocator + Copy> Model for Dialogue<A> {
     ghost Value = { model.Dialogue };
 
     ghost view = { λ d. record {
-      standing = record { identifier = d.identifier; state = phase_view d.phase; context = context_view d.context; queue = queue_view d.queue };
+      standing = record {
+        identifier = d.identifier;
+        state = phase_view d.phase;
+        context = context_view d.context;
+        queue = queue_view d.queue;
+      };
       invocations = d.invocations;
       idle_ms = d.idle_ms;
       touched = d.touched;

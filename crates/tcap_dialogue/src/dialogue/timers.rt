@@ -123,7 +123,7 @@ impl<A: Allocator + Copy> Dialogue<A> {
             Some(Expiry::Wait) => Some(Timer::Wait),
             None => {
                 idle?;
-                self.touched = clock;
+                self.touch(clock);
                 Some(Timer::Idle)
             }
         }
@@ -131,6 +131,7 @@ impl<A: Allocator + Copy> Dialogue<A> {
 
     /// The idle timer starts anew at this moment of the clock, at most 2^62: for a caller that puts its
     /// end off until all lapses of the moment are told. It takes no memory (own).
+    #[inline(always)]
     pub fn touch(&mut self, clock: u64)
         requires { clock ≤ moment_limit }
         ensures { self.new ≡ touched_at self.old clock }
@@ -182,7 +183,7 @@ impl<A: Allocator + Copy> Dialogue<A> {
         self.invocations.due_count(clock)
     }
 
-    /// Of these the first by deadline, then number.
+    /// The Sent invocation whose deadline comes first, by deadline, then number, if it is at most the clock.
     pub fn first_due(&self, clock: u64) -> Option<Lapse>
         ensures { result ≡ first_due_at clock self.now.invocations.rows }
     {
