@@ -3,11 +3,8 @@
 // Hints to inline: each step of an engine runs through it; docs/PERF.md says what the whole of it inlined gains.
 
 ghost use Rattle.std.specs.Prelude.{◌≡◌, ◌↔◌, ◌≤◌, min, length, [], None, is_some, IsSome, IfSome, IfNone, OnOk, OnErr, IsErrOf, IsOkUnless, IsTrue, Err};
-ghost use Rattle.tcap_invocation.specs.Invocations.{InvocationList, AllBelow, IsSound, entry_at, sent_at, add_fault, added, after_sent};
+ghost use Rattle.tcap_invocation.specs.Invocations.{InvocationList, AllBelow, IsSound, entry_at, add_fault, added};
 ghost use Rattle.tcap_invocation.specs.Stage.{moment_limit, IsTimeout};
-ghost use Rattle.tcap_invocation.specs.Timers.{next_timer_at};
-ghost use Rattle.tcap_invocation.specs.Lapses.{due_at};
-ghost use Rattle.tcap_invocation.specs.Expiries.{RunsOut, first_expiry_at, after_expiry};
 
 pub(crate) mod answers;
 pub(crate) mod closing;
@@ -21,7 +18,6 @@ mod timers;
 use crate::class::Class;
 use crate::fault::AddFault;
 use crate::stage::{MAX_MOMENT, Stage};
-use lapse::Expiry;
 use rows::Rows;
 use std::alloc::{AllocError, Allocator, Global};
 use std::marker::Model;
@@ -104,13 +100,6 @@ impl<A: Allocator + Copy> Invocations<A> {
         self.rows.capacity().min(IDENTIFIERS)
     }
 
-    /// Whether an invocation with the identifier is Sent, so that a result or an error is for it.
-    pub fn is_open(&self, id: i8) -> bool
-        ensures { result ≡ is_some (sent_at self.now.rows id) }
-    {
-        sent_at(&self.rows, &id).is_some()
-    }
-
     /// Whether the identifier is in use, in any stage.
     #[inline(always)]
     pub fn in_use(&self, id: i8) -> bool
@@ -178,68 +167,5 @@ impl<A: Allocator + Copy> Invocations<A> {
             stage: Stage::Queued(timeout),
         };
         self.rows.push(id, entry)
-    }
-
-    /// The message with the queued Invokes goes out at this moment, at most 2^62: each gets its deadline.
-    #[inline(always)]
-    pub fn sent(&mut self, clock: u64)
-        requires { clock ≤ moment_limit }
-        ensures { self.new ≡ after_sent self.old clock }
-    {
-        self.rows.send_queued(clock);
-    }
-
-    /// The moment at which time next changes something: the least deadline of a Sent invocation or end of
-    /// the wait of an identifier, in milliseconds, at most 2^63. Nothing where there is none. It takes no
-    /// memory (own).
-    #[tactic(auto, using(crate::proofs::TimelyLemmas::timely_rules))]
-    #[inline(always)]
-    pub fn next_timer(&self) -> Option<u64>
-        ensures { result ≡ next_timer_at self.now.rows }
-    {
-        self.rows.next_timer()
-    }
-
-    /// How many Sent invocations have a deadline at most the clock.
-    #[inline(always)]
-    pub fn due_count(&self, clock: u64) -> usize
-        ensures { result ≡ length (due_at clock self.now.rows) }
-    {
-        self.rows.due_count(clock)
-    }
-
-    /// The first timer by its moment, then number, runs out, if its moment is at most the clock: the invocation
-    /// lapses, or each identifier whose wait is over at the clock is free. What it was of, or nothing where no moment
-    /// is reached. It takes no memory.
-    #[inline(always)]
-    pub fn expire_first(&mut self, clock: u64) -> Option<Expiry>
-        ensures expiry { result ≡ first_expiry_at clock self.old.rows }
-        ensures list { self.new ≡ after_expiry self.old clock result }
-        // What lapses and what is left from then on is the same.
-        ensures rest { RunsOut clock result self.old self.new }
-    {
-        self.expire_row(clock)
-    }
-
-    /// `expire_first`, by the rows.
-    #[inline(always)]
-    fn expire_row(&mut self, clock: u64) -> Option<Expiry>
-        ensures expiry { result ≡ first_expiry_at clock self.old.rows }
-        ensures list { self.new ≡ after_expiry self.old clock result }
-        ensures sound { IsSound self.old }
-    {
-        self.rows.expire_first(clock)
-    }
-}
-
-/// The invocation that has the identifier, if it is Sent.
-#[inline(always)]
-fn sent_at<A: Allocator + Copy>(rows: &Rows<A>, id: &i8) -> Option<Invocation>
-    ensures { result ≡ sent_at rows.now id.now }
-{
-    let entry = *rows.get(id)?;
-    match entry.stage {
-        Stage::Sent(_) => Some(entry),
-        Stage::Queued(_) | Stage::Waiting(_) => None,
     }
 }

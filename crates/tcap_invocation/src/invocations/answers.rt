@@ -1,14 +1,17 @@
-//! Received results and errors, by the operation class.
+//! The invocation that is Sent under an identifier, and received results and errors, by its class.
 
 // Hints to inline: each step of an engine runs through it; docs/PERF.md says what the whole of it inlined gains.
 
-ghost use Rattle.std.specs.Prelude.{◌≡◌, ◌≤◌};
+ghost use Rattle.std.specs.Prelude.{◌≡◌, ◌≤◌, is_some};
+ghost use Rattle.tcap_invocation.specs.Invocations.{sent_at};
 ghost use Rattle.tcap_invocation.specs.Class.{return_result};
 ghost use Rattle.tcap_invocation.specs.Class.Received.{return_error};
 ghost use Rattle.tcap_invocation.specs.Answers.{verdict_on, after_received, rejected_at, after_reject};
 ghost use Rattle.tcap_invocation.specs.Stage.{moment_limit};
 
-use super::{Invocations, sent_at};
+use super::rows::Rows;
+use super::{Invocation, Invocations};
+use crate::stage::Stage;
 use std::alloc::Allocator;
 use tcap_component::Kind;
 
@@ -24,6 +27,13 @@ pub enum Verdict {
 }
 
 impl<A: Allocator + Copy> Invocations<A> {
+    /// Whether an invocation with the identifier is Sent, so that a result or an error is for it.
+    pub fn is_open(&self, id: i8) -> bool
+        ensures { result ≡ is_some (sent_at self.now.rows id) }
+    {
+        sent_at(&self.rows, &id).is_some()
+    }
+
     /// A Return Result was received at this moment, at most 2^62; `last` tells Last from Not Last.
     #[inline(always)]
     pub fn on_result(&mut self, id: i8, last: bool, clock: u64) -> Verdict
@@ -77,5 +87,17 @@ impl<A: Allocator + Copy> Invocations<A> {
             }
             Kind::Result | Kind::Error => None,
         }
+    }
+}
+
+/// The invocation that has the identifier, if it is Sent.
+#[inline(always)]
+fn sent_at<A: Allocator + Copy>(rows: &Rows<A>, id: &i8) -> Option<Invocation>
+    ensures { result ≡ sent_at rows.now id.now }
+{
+    let entry = *rows.get(id)?;
+    match entry.stage {
+        Stage::Sent(_) => Some(entry),
+        Stage::Queued(_) | Stage::Waiting(_) => None,
     }
 }

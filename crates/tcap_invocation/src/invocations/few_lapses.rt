@@ -10,7 +10,7 @@ use super::lapse::{Lapse, lapse_of};
 use ber_core::OutOfMemory;
 use std::alloc::Allocator;
 
-/// Of these the first by deadline, then number.
+/// The Sent invocation whose deadline comes first, by deadline, then number, if it is at most the clock.
 pub(super) fn first_due(rows: &[Row], clock: u64) -> Option<Lapse>
     requires { AreInOrder rows.now }
     ensures { result ≡ first_due_at clock rows.now }

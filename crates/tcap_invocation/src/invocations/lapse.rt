@@ -1,10 +1,13 @@
-//! Invocations whose deadline has come (TC-L-CANCEL indication).
+//! What timers do to invocations: how they are set, which comes next, and what lapses (TC-L-CANCEL indication).
 
 // Hints to inline: each step of an engine runs through it; docs/PERF.md says what the whole of it inlined gains.
 
-ghost use Rattle.std.specs.Prelude.{◌≡◌, ◌≢◌, [], ◌∷◌, OnOk, OnErr, IfOk, IfSome};
-ghost use Rattle.tcap_invocation.specs.Invocations.{IsSound};
-ghost use Rattle.tcap_invocation.specs.Lapses.{told_at, first_due_at, lapse_of, lapse_at, after_lapse, after_lapse_one, after_free_due};
+ghost use Rattle.std.specs.Prelude.{◌≡◌, ◌≢◌, ◌≤◌, [], ◌∷◌, length, OnOk, OnErr, IfOk, IfSome};
+ghost use Rattle.tcap_invocation.specs.Expiries.{RunsOut, first_expiry_at, after_expiry};
+ghost use Rattle.tcap_invocation.specs.Invocations.{IsSound, after_sent};
+ghost use Rattle.tcap_invocation.specs.Stage.{moment_limit};
+ghost use Rattle.tcap_invocation.specs.Timers.{next_timer_at};
+ghost use Rattle.tcap_invocation.specs.Lapses.{due_at, told_at, first_due_at, lapse_of, lapse_at, after_lapse, after_lapse_one, after_free_due};
 
 use super::{Invocation, Invocations};
 use ber_core::OutOfMemory;
@@ -31,6 +34,57 @@ pub enum Expiry {
 }
 
 impl<A: Allocator + Copy> Invocations<A> {
+    /// The message with the queued Invokes goes out at this moment, at most 2^62: each gets its deadline.
+    #[inline(always)]
+    pub fn sent(&mut self, clock: u64)
+        requires { clock ≤ moment_limit }
+        ensures { self.new ≡ after_sent self.old clock }
+    {
+        self.rows.send_queued(clock);
+    }
+
+    /// The moment at which time next changes something: the least deadline of a Sent invocation or end of
+    /// the wait of an identifier, in milliseconds, at most 2^63. Nothing where there is none. It takes no
+    /// memory (own).
+    #[tactic(auto, using(crate::proofs::TimelyLemmas::timely_rules))]
+    #[inline(always)]
+    pub fn next_timer(&self) -> Option<u64>
+        ensures { result ≡ next_timer_at self.now.rows }
+    {
+        self.rows.next_timer()
+    }
+
+    /// How many Sent invocations have a deadline at most the clock.
+    #[inline(always)]
+    pub fn due_count(&self, clock: u64) -> usize
+        ensures { result ≡ length (due_at clock self.now.rows) }
+    {
+        self.rows.due_count(clock)
+    }
+
+    /// The first timer by its moment, then number, runs out, if its moment is at most the clock: the invocation
+    /// lapses, or each identifier whose wait is over at the clock is free. What it was of, or nothing where no moment
+    /// is reached. It takes no memory.
+    #[inline(always)]
+    pub fn expire_first(&mut self, clock: u64) -> Option<Expiry>
+        ensures expiry { result ≡ first_expiry_at clock self.old.rows }
+        ensures list { self.new ≡ after_expiry self.old clock result }
+        // What lapses and what is left from then on is the same.
+        ensures rest { RunsOut clock result self.old self.new }
+    {
+        self.expire_row(clock)
+    }
+
+    /// `expire_first`, by the rows.
+    #[inline(always)]
+    fn expire_row(&mut self, clock: u64) -> Option<Expiry>
+        ensures expiry { result ≡ first_expiry_at clock self.old.rows }
+        ensures list { self.new ≡ after_expiry self.old clock result }
+        ensures sound { IsSound self.old }
+    {
+        self.rows.expire_first(clock)
+    }
+
     /// The clock is at this moment: takes out each Sent invocation whose deadline is at most the clock,
     /// told by deadline, then number, and untold each identifier whose wait is over by then.
     pub fn lapse(&mut self, clock: u64) -> Result<Vec<Lapse, A>, OutOfMemory>
@@ -42,7 +96,7 @@ impl<A: Allocator + Copy> Invocations<A> {
         self.rows.lapse(clock)
     }
 
-    /// Of these the first by deadline, then number.
+    /// The Sent invocation whose deadline comes first, by deadline, then number, if it is at most the clock.
     pub fn first_due(&self, clock: u64) -> Option<Lapse>
         ensures { result ≡ first_due_at clock self.now.rows }
     {
