@@ -2,15 +2,14 @@
 
 // Hints to inline: each step of an engine runs through it; docs/PERF.md says what the whole of it inlined gains.
 
-ghost use Rattle.std.specs.Prelude.{◌≡◌, ◌≢◌, ◌≤◌, ◌⊎◌, ◌+◌, ◌-◌, ◌++◌, ◌∷◌, ◌^◌, [], nat_eq, length, min};
-ghost use Rattle.std.specs.Prelude.{None, false, option_copied, OnErr, OnOk, MatchOption, if◌then◌else◌};
+ghost use Rattle.std.specs.Prelude.{◌≡◌, ◌≤◌, ◌+◌, ◌++◌, ◌∷◌, [], nat_eq, length};
+ghost use Rattle.std.specs.Prelude.{None, false, option_copied, OnErr, OnOk, if◌then◌else◌};
+ghost use Rattle.std.specs.List.{flat_map};
 ghost use Rattle.std.specs.Map.{lookup, remove_entry};
 ghost use Rattle.std.specs.Option.{option_map};
-ghost use Rattle.tcap_engine.specs.IdleDialogues.{idle_ids};
-ghost use Rattle.tcap_engine.specs.Lapsing.{AreUntimed, IsFirstTimer, timer_of};
-ghost use Rattle.tcap_engine.specs.DialogueEntries.{AreDrawn, dialogues_of};
-ghost use Rattle.tcap_model.specs.Table.Dialogue.{is_idle_at};
-ghost use Rattle.tcap_model.specs.Table.DueLapses.{all_told, all_idle_told};
+ghost use Rattle.tcap_engine.specs.DialogueEntries.{AreDrawn, AreFrom};
+ghost use Rattle.tcap_engine.specs.IdleDialogues.{AreDistinct, idle_end_in, without_all};
+ghost use Rattle.tcap_engine.specs.Lapsing.{timer_of};
 ghost use Rattle.tcap_reception.specs.StateViews.{state_of};
 ghost use Rattle.timed_table.specs.Row.{entries_of, with_time, without};
 
@@ -18,7 +17,7 @@ use ber_core::OutOfMemory;
 use std::alloc::{AllocFailed, Allocator, Global};
 use std::fmt;
 use std::marker::Model;
-use tcap_dialogue::{Dialogue, Spares, State};
+use tcap_dialogue::{Dialogue, Sink, SinkKind, Spares, State};
 use timed_table::Table;
 
 /// The dialogues by their identifiers, in order of creation; beside each its next timer.
@@ -29,15 +28,6 @@ pub(crate) struct Dialogues<A: Allocator + Copy = Global> {
     pub(crate) rows: Table<Dialogue<A>, A>,
     /// What dialogues that are over left, for those that come.
     pub(crate) spares: Spares<A>,
-}
-
-/// How much room the answer to a moment needs.
-#[derive(Clone, Copy)]
-pub(crate) struct Capacity {
-    /// For what is told.
-    pub(crate) told: usize,
-    /// For the identifiers of the dialogues that have been idle too long.
-    pub(crate) idle: usize,
 }
 
 impl<A: Allocator + Copy> Model for Dialogues<A> {
@@ -114,43 +104,6 @@ impl<A: Allocator + Copy> Dialogues<A> {
             Err(AllocFailed { .. }) => Err(OutOfMemory),
         }
     }
-
-    /// The least timer of all, and of the dialogues that share it the least identifier.
-    #[inline(always)]
-    pub(crate) fn first_timer(&self) -> Option<(u64, u32)>
-        ensures { MatchOption result (AreUntimed self.now) (IsFirstTimer self.now) }
-    {
-        self.rows.first()
-    }
-
-    /// Makes the next call for the dialogue of the first timer find it at once.
-    #[inline(always)]
-    pub(crate) fn find_first(&mut self)
-        ensures { self.new ≡ self.old }
-    {
-        self.rows.find_first();
-    }
-
-    /// How much room the answer to a moment needs, as far as a `usize` can tell: none for outputs where
-    /// nothing is told.
-    pub(crate) fn capacity_at(&self, now: u64) -> Capacity
-        ensures enough { length (all_told now (dialogues_of self.now)) + length
-            (all_idle_told now (dialogues_of self.now)) ≤ result.told ⊎ (result.told ≡ 2 ^ 64 - 1) }
-        ensures some { result.told ≢ 0 → all_told now (dialogues_of self.now)
-            ++ all_idle_told now (dialogues_of self.now) ≢ [] }
-        ensures idle { result.idle ≡ min (length (idle_ids now self.now)) (2 ^ 64 - 1) }
-    {
-        let mut told: usize = 0;
-        let mut idle: usize = 0;
-        for dialogue in self.rows.due(now) {
-            told = told.saturating_add(dialogue.due_count(now));
-            if is_idle(dialogue, now) {
-                told = told.saturating_add(dialogue.open_count()).saturating_add(1);
-                idle = idle.saturating_add(1);
-            }
-        }
-        Capacity { told, idle }
-    }
 }
 
 // By hand, since the memory that dialogues left says nothing of those that stand.
@@ -160,14 +113,6 @@ impl<A: Allocator + Copy + fmt::Debug> fmt::Debug for Dialogues<A> {
             .field("rows", &self.rows)
             .finish()
     }
-}
-
-/// Whether a dialogue has been idle too long at a moment.
-#[inline(always)]
-fn is_idle<A: Allocator + Copy>(dialogue: &Dialogue<A>, now: u64) -> bool
-    ensures { result ≡ is_idle_at now dialogue.now }
-{
-    dialogue.idle_at().is_some_and(|time| time <= now)
 }
 
 /// The memory of the dialogue of an identifier, which is over, is kept.
@@ -243,5 +188,44 @@ pub(crate) fn settle<A: Allocator + Copy>(
         take_out(rows, spares, identifier);
     } else {
         write_timer(rows, identifier, timer);
+    }
+}
+
+/// The dialogue of an identifier is over (TC-P-ABORT indication); there is room for all that is told.
+fn end_one<'m, A: Allocator + Copy, K: SinkKind>(
+    table: &mut Dialogues<A>,
+    identifier: u32,
+    sink: &mut Sink<'m, A, K>,
+)
+    requires from { AreFrom 0 table.old }
+    requires places { length (idle_end_in table.old identifier) ≤ sink.old.places }
+    ensures told { sink.new.outputs ≡ sink.old.outputs
+        ++ idle_end_in table.old identifier }
+    ensures places { sink.old.places ≤ sink.new.places
+        + length (idle_end_in table.old identifier) }
+    ensures table { table.new ≡ remove_entry (nat_eq identifier) table.old }
+{
+    let Some(mut dialogue) = table.rows.remove(identifier) else {
+        return;
+    };
+    dialogue.abort_idle(sink);
+}
+
+/// The dialogues of these identifiers are over, earliest first; there is room for all that is told.
+#[inline(always)]
+pub(crate) fn end_all<'m, A: Allocator + Copy, K: SinkKind>(
+    table: &mut Dialogues<A>,
+    ids: &[u32],
+    sink: &mut Sink<'m, A, K>,
+)
+    requires from { AreFrom 0 table.old }
+    requires apart { AreDistinct ids.now }
+    requires places { length (flat_map (idle_end_in table.old) ids.now) ≤ sink.old.places }
+    ensures told { sink.new.outputs ≡ sink.old.outputs
+        ++ flat_map (idle_end_in table.old) ids.now }
+    ensures table { table.new ≡ without_all ids.now table.old }
+{
+    for identifier in ids {
+        end_one(table, *identifier, sink);
     }
 }

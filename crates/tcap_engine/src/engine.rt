@@ -32,7 +32,10 @@ use tcap_primitives::ranges;
 ///   `u_reject` and `u_cancel` of component handling; `uni`, `begin`, `go_on`, `finish` and
 ///   `u_abort` of dialogue handling; `request`, any of these eleven as a value.
 /// - Events from outside: `receive`, for messages; `advance`, for time; `handle`, any event as a value.
-/// - Getters: `now`, `state_of`, `next_timer`.
+/// - Into an outbox: `uni_into`, `begin_into`, `go_on_into`, `finish_into`, `u_abort_into`, or any of them by
+///   `request_into`; `receive_into`, `advance_into`; `handle_into`.
+/// - Getters: `now`, `state_of`, `next_timer`; `dialogues`, `next_identifiers`; `due`, how many outputs a moment needs
+///   room for; `message_length` and `ended_by`, of a message that a request would send.
 ///
 /// Moments are in milliseconds by the caller's clock, at most 2^62. A contract sees the limits, the
 /// counters, the clock and the dialogues that stand by rising identifier, which is the order of

@@ -2,28 +2,37 @@
 
 // Hints to inline: each step of an engine runs through it; docs/PERF.md says what the whole of it inlined gains.
 
-ghost use Rattle.std.specs.Prelude.{◌≡◌, ◌≤◌, OnErr, false, ℕ, true, ◌+◌, IfSome, MatchOption, ◌++◌, length, IfNone, [], vec_capacity, nat_eq};
-ghost use Rattle.tcap_engine.specs.StepForm.{EngineAnswers, outputs_answer, since_answer};
+ghost use Rattle.std.specs.Prelude.{◌≡◌, ◌≢◌, ◌≤◌, ◌⊎◌, ◌+◌, ◌-◌, ◌^◌, ◌++◌, [], ℕ, true, false, length, min, vec_capacity};
+ghost use Rattle.std.specs.Prelude.{IfNone, IfSome, MatchOption, OnErr};
+ghost use Rattle.tcap_engine.specs.DialogueEntries.{AreFrom, dialogues_of};
 ghost use Rattle.tcap_engine.specs.HistoryForm.{Stands};
+ghost use Rattle.tcap_engine.specs.IdleDialogues.{ends_in, idle_ids, left_by};
+ghost use Rattle.tcap_engine.specs.Lapsing.{AreUntimed, IsExpired, IsFirstTimer, IsQuiet};
 ghost use Rattle.tcap_engine.specs.NextTimer.{IsAccepted, IsStill, IsChanged, next_timer_in};
+ghost use Rattle.tcap_engine.specs.StepForm.{EngineAnswers, outputs_answer, since_answer};
 ghost use Rattle.tcap_invocation.specs.Stage.{moment_limit};
-ghost use Rattle.tcap_model.specs.Table.EngineMove.{engine_move, advanced};
+ghost use Rattle.tcap_model.specs.Table.Dialogue.{is_idle_at};
+ghost use Rattle.tcap_model.specs.Table.DueLapses.{all_idle_told, all_told};
+ghost use Rattle.tcap_model.specs.Table.EngineMove.{advanced, engine_move};
 ghost use Rattle.tcap_model.specs.Words.Event.{Event};
 ghost use Rattle.tcap_primitives.specs.SinkViews.{KeepsOutputs};
 ghost use Rattle.timed_table.specs.Row.{is_due};
-ghost use Rattle.tcap_engine.specs.Lapsing.{IsFirstTimer, IsQuiet, IsExpired};
-ghost use Rattle.tcap_engine.specs.DialogueEntries.{AreFrom, dialogues_of};
-ghost use Rattle.tcap_model.specs.Table.DueLapses.{all_told};
-ghost use Rattle.tcap_engine.specs.IdleDialogues.{ends_in, idle_ids, left_by, idle_end_in, AreDistinct, without_all};
-ghost use Rattle.std.specs.Map.{remove_entry};
-ghost use Rattle.std.specs.List.{flat_map};
 
 use super::Engine;
-use crate::dialogues::Dialogues;
+use crate::dialogues::{Dialogues, end_all};
 use std::alloc::Allocator;
-use tcap_dialogue::{Fault, Output, Sink, SinkKind, Timer};
+use tcap_dialogue::{Dialogue, Fault, Output, Sink, SinkKind, Timer};
 use tcap_invocation::MAX_MOMENT;
 use tcap_primitives::ranges;
+
+/// How much room the answer to a moment needs.
+#[derive(Clone, Copy)]
+pub(super) struct Capacity {
+    /// For what is told.
+    pub(super) told: usize,
+    /// For the identifiers of the dialogues that have been idle too long.
+    pub(super) idle: usize,
+}
 
 impl<A: Allocator + Copy> Engine<A> {
     /// The clock is at this moment, in milliseconds, at most 2^62: tells each invocation whose deadline
@@ -138,6 +147,53 @@ impl<A: Allocator + Copy> Engine<A> {
     }
 }
 
+impl<A: Allocator + Copy> Dialogues<A> {
+    /// The least timer of all, and of the dialogues that share it the least identifier.
+    #[inline(always)]
+    fn first_timer(&self) -> Option<(u64, u32)>
+        ensures { MatchOption result (AreUntimed self.now) (IsFirstTimer self.now) }
+    {
+        self.rows.first()
+    }
+
+    /// Makes the next call for the dialogue of the first timer find it at once.
+    #[inline(always)]
+    fn find_first(&mut self)
+        ensures { self.new ≡ self.old }
+    {
+        self.rows.find_first();
+    }
+
+    /// How much room the answer to a moment needs, as far as a `usize` can tell: none for outputs where
+    /// nothing is told.
+    pub(super) fn capacity_at(&self, now: u64) -> Capacity
+        ensures enough { length (all_told now (dialogues_of self.now)) + length
+            (all_idle_told now (dialogues_of self.now)) ≤ result.told ⊎ (result.told ≡ 2 ^ 64 - 1) }
+        ensures some { result.told ≢ 0 → all_told now (dialogues_of self.now)
+            ++ all_idle_told now (dialogues_of self.now) ≢ [] }
+        ensures idle { result.idle ≡ min (length (idle_ids now self.now)) (2 ^ 64 - 1) }
+    {
+        let mut told: usize = 0;
+        let mut idle: usize = 0;
+        for dialogue in self.rows.due(now) {
+            told = told.saturating_add(dialogue.due_count(now));
+            if is_idle(dialogue, now) {
+                told = told.saturating_add(dialogue.open_count()).saturating_add(1);
+                idle = idle.saturating_add(1);
+            }
+        }
+        Capacity { told, idle }
+    }
+}
+
+/// Whether a dialogue has been idle too long at a moment.
+#[inline(always)]
+fn is_idle<A: Allocator + Copy>(dialogue: &Dialogue<A>, now: u64) -> bool
+    ensures { result ≡ is_idle_at now dialogue.now }
+{
+    dialogue.idle_at().is_some_and(|time| time <= now)
+}
+
 /// The first timer of all that runs out by a moment, and its dialogue.
 #[inline(always)]
 fn first_timer_by<A: Allocator + Copy>(table: &Dialogues<A>, now: u64) -> Option<(u64, u32)>
@@ -206,44 +262,5 @@ fn tell_due<'m, A: Allocator + Copy, K: SinkKind>(
             Timer::Lapse | Timer::Wait => {}
             Timer::Idle => idle.push_reserved(identifier),
         }
-    }
-}
-
-/// The dialogue of an identifier is over (TC-P-ABORT indication); there is room for all that is told.
-fn end_one<'m, A: Allocator + Copy, K: SinkKind>(
-    table: &mut Dialogues<A>,
-    identifier: u32,
-    sink: &mut Sink<'m, A, K>,
-)
-    requires from { AreFrom 0 table.old }
-    requires places { length (idle_end_in table.old identifier) ≤ sink.old.places }
-    ensures told { sink.new.outputs ≡ sink.old.outputs
-        ++ idle_end_in table.old identifier }
-    ensures places { sink.old.places ≤ sink.new.places
-        + length (idle_end_in table.old identifier) }
-    ensures table { table.new ≡ remove_entry (nat_eq identifier) table.old }
-{
-    let Some(mut dialogue) = table.rows.remove(identifier) else {
-        return;
-    };
-    dialogue.abort_idle(sink);
-}
-
-/// The dialogues of these identifiers are over, earliest first; there is room for all that is told.
-#[inline(always)]
-fn end_all<'m, A: Allocator + Copy, K: SinkKind>(
-    table: &mut Dialogues<A>,
-    ids: &[u32],
-    sink: &mut Sink<'m, A, K>,
-)
-    requires from { AreFrom 0 table.old }
-    requires apart { AreDistinct ids.now }
-    requires places { length (flat_map (idle_end_in table.old) ids.now) ≤ sink.old.places }
-    ensures told { sink.new.outputs ≡ sink.old.outputs
-        ++ flat_map (idle_end_in table.old) ids.now }
-    ensures table { table.new ≡ without_all ids.now table.old }
-{
-    for identifier in ids {
-        end_one(table, *identifier, sink);
     }
 }

@@ -2,7 +2,7 @@ use Rattle.std.proofs.Common.{◌≡◌, ◌≤◌, ◌++◌, drop, length}
 use Rattle.std.specs.List.{flat_map}
 use Rattle.tcap_engine.specs.IdleDialogues.{AreDistinct, idle_end_in, without_all}
 use Rattle.tcap_engine.specs.DialogueEntries.{AreFrom}
-use Rattle.tcap_engine.proofs.engine.advance.end_all.Given as goal
+use Rattle.tcap_engine.proofs.dialogues.end_all.Given as goal
 
 abbrev pub invariant-loop-identifier : goal.invariant-loop-identifier
 invariant-loop-identifier g l = record {

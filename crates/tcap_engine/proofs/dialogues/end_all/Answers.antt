@@ -4,7 +4,7 @@ use Rattle.std.specs.List.{flat_map}
 use Rattle.std.specs.Map.{remove_entry}
 use Rattle.tcap_engine.specs.IdleDialogues.{idle_end_in, without_all}
 use Rattle.tcap_engine.proofs.OverLemmas.{OverStep, over-step, none-without}
-use Rattle.tcap_engine.proofs.engine.advance.end_all.Goals as goal
+use Rattle.tcap_engine.proofs.dialogues.end_all.Goals as goal
 
 pub loop-identifier-preserved : goal.loop-identifier-preserved
 loop-identifier-preserved g c =

@@ -7,7 +7,7 @@ use Rattle.tcap_engine.proofs.TimedLemmas.{timed-without}
 use Rattle.tcap_invocation.specs.Closing.{ended_at}
 use Rattle.tcap_model.specs.Table.TableMove.{ended_told}
 use Rattle.timed_table.specs.Row.{entries_of}
-use Rattle.tcap_engine.proofs.engine.advance.end_one.Goals as goal
+use Rattle.tcap_engine.proofs.dialogues.end_one.Goals as goal
 
 pub invariant_of-table : goal.invariant_of-table
 invariant_of-table g c = rw c.remove.ensures.rows (timed-without c.args.identifier c.table.inside.rows c.table.invariant)
