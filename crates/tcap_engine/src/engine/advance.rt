@@ -2,7 +2,7 @@
 
 // Hints to inline: each step of an engine runs through it; docs/PERF.md says what the whole of it inlined gains.
 
-ghost use Rattle.std.specs.Prelude.{◌≡◌, ◌≢◌, ◌≤◌, ◌⊎◌, ◌+◌, ◌-◌, ◌^◌, ◌++◌, [], ℕ, true, false, length, min, vec_capacity};
+ghost use Rattle.std.specs.Prelude.{◌≡◌, ◌≢◌, ◌≤◌, ◌⊎◌, ◌+◌, ◌-◌, ◌^◌, ◌++◌, [], ℕ, List, true, false, length, min, vec_capacity};
 ghost use Rattle.std.specs.Prelude.{IfNone, IfSome, MatchOption, OnErr};
 ghost use Rattle.tcap_engine.specs.DialogueEntries.{AreFrom, dialogues_of};
 ghost use Rattle.tcap_engine.specs.HistoryForm.{Stands};
@@ -15,6 +15,7 @@ ghost use Rattle.tcap_model.specs.Table.Dialogue.{is_idle_at};
 ghost use Rattle.tcap_model.specs.Table.DueLapses.{all_idle_told, all_told};
 ghost use Rattle.tcap_model.specs.Table.EngineMove.{advanced, engine_move};
 ghost use Rattle.tcap_model.specs.Words.Event.{Event};
+ghost use Rattle.tcap_model.specs.Words.Output as model;
 ghost use Rattle.tcap_primitives.specs.SinkViews.{KeepsOutputs};
 ghost use Rattle.timed_table.specs.Row.{is_due};
 
@@ -23,7 +24,7 @@ use crate::dialogues::{Dialogues, end_all};
 use std::alloc::Allocator;
 use tcap_dialogue::{Dialogue, Fault, Output, Sink, SinkKind, Timer};
 use tcap_invocation::MAX_MOMENT;
-use tcap_primitives::ranges;
+use tcap_primitives::{ToVector, ranges};
 
 /// How much room the answer to a moment needs.
 #[derive(Clone, Copy)]
@@ -56,11 +57,7 @@ impl<A: Allocator + Copy> Engine<A> {
     /// `advance`, whose outputs are appended to what a sink holds.
     #[tactic(auto, using(crate::proofs::StandingLemmas::stands_after))]
     #[inline(always)]
-    pub(super) fn advance_with<'m, K: SinkKind>(
-        &mut self,
-        now: u64,
-        sink: &mut Sink<'m, A, K>,
-    ) -> Result<(), Fault>
+    fn advance_with<'m>(&mut self, now: u64, sink: &mut Sink<'m, A, ToVector>) -> Result<(), Fault>
         ensures moves { EngineAnswers (since_answer sink.old.outputs sink.new.outputs)
             result (engine_move self.old (Event.moment now)) self.old self.new }
         ensures stands { Stands (since_answer sink.old.outputs sink.new.outputs) result
@@ -70,34 +67,35 @@ impl<A: Allocator + Copy> Engine<A> {
         ensures still { OnErr result (sink.new.outputs ≡ sink.old.outputs) }
     {
         ranges::long(now);
-        self.move_clock(now, sink)
+        match self.pass_if_still(now) {
+            Some(answer) => answer,
+            None => self.expire(now, sink),
+        }
     }
 
-    /// `advance_with`, by the engine's move.
+    /// What is answered to a moment that is refused, or at which nothing is due: the clock is at it then, unless it is
+    /// below. `None`, and nothing has changed, where the first timer was reached.
     #[tactic(auto, unfolding(tcap_model::specs::Table::EngineMove::engine_move))]
     #[inline(always)]
-    fn move_clock<'m, K: SinkKind>(
-        &mut self,
-        now: u64,
-        sink: &mut Sink<'m, A, K>,
-    ) -> Result<(), Fault>
-        ensures moves { EngineAnswers (since_answer sink.old.outputs sink.new.outputs)
-            result (engine_move self.old (Event.moment now)) self.old self.new }
-        ensures kept { KeepsOutputs sink.old.outputs sink.new.outputs }
-        ensures err { OnErr result (self.new ≡ self.old) }
-        ensures still { OnErr result (sink.new.outputs ≡ sink.old.outputs) }
+    pub(super) fn pass_if_still(&mut self, now: u64) -> Option<Result<(), Fault>>
+        ensures answered { IfSome result (λ answer. (outputs : List model.Output) → EngineAnswers
+            (since_answer outputs outputs) answer (engine_move self.old (Event.moment now)) self.old self.new) }
+        ensures err { IfSome result (λ answer. OnErr answer (self.new ≡ self.old)) }
+        ensures reached { IfNone result ((self.old.clock ≤ now) × (now ≤ moment_limit)
+            × (engine_move self.old (Event.moment now) ≡ advanced self.old now)) }
+        ensures same { IfNone result (self.new ≡ self.old) }
     {
         if now > MAX_MOMENT {
-            return Err(Fault::MomentTooLate);
+            return Some(Err(Fault::MomentTooLate));
         }
         if now < self.clock {
-            return Ok(());
+            return Some(Ok(()));
         }
-        if !self.has_reached(now) {
-            self.clock = now;
-            return Ok(());
+        if self.has_reached(now) {
+            return None;
         }
-        self.expire(now, sink)
+        self.clock = now;
+        Some(Ok(()))
     }
 
     /// The least moment, in milliseconds, at which `advance` tells something, frees an identifier or ends a
@@ -126,9 +124,13 @@ impl<A: Allocator + Copy> Engine<A> {
         self.next_timer().is_some_and(|time| time <= now)
     }
 
-    /// The clock moves on to this moment.
+    /// The clock moves on to this moment, which isn't below it: what is due is told.
     #[inline(always)]
-    fn expire<'m, K: SinkKind>(&mut self, now: u64, sink: &mut Sink<'m, A, K>) -> Result<(), Fault>
+    pub(super) fn expire<'m, K: SinkKind>(
+        &mut self,
+        now: u64,
+        sink: &mut Sink<'m, A, K>,
+    ) -> Result<(), Fault>
         requires late { now ≤ moment_limit }
         requires up { self.old.clock ≤ now }
         ensures moves { EngineAnswers (since_answer sink.old.outputs sink.new.outputs)
