@@ -1,6 +1,6 @@
 -- What is read is a component, each component is read, and each fault is told.
 use Rattle.std.proofs.Common.{◌≡◌, ℕ, ℤ, true, false, List, [], ◌∷◌, ◌++◌, Option, Some, None, Ok, Err, Result, refl, sym, ap, subst, ◌∙◌, inl, inr, arith}
-use Rattle.std.specs.Prelude.{IsOkAnd}
+use Rattle.std.specs.Prelude.{IfErr, IfOk, IsOk, IsOkAnd}
 use Rattle.std.proofs.lemmas.Bool.{cases_Bool}
 use Rattle.std.proofs.lemmas.List.{append_cancel_right}
 use Rattle.ber_core.specs.declared.fault.BerFault.{BerFault}
@@ -195,6 +195,32 @@ component_here tag f bytes r c t h k = elim (by_result (element_at 32 bytes)) [
   ]
 ]
 
+-- contents that aren't read make it a faulty one
+verdict_unread : (tag content : List ℕ) (f : Form) → form_at tag ≡ Some f → contents_at f content ≡ None → (code : ℕ) × (verdict_by (form_at tag) content ≡ Err code)
+verdict_unread tag content f t k = elim (cases_Bool (is_structured f content)) [
+  | inl y ↦ (1, rw (t, y, k) refl)
+  | inr n ↦ (2, rw (t, n) refl)
+]
+
+pub none_here : (tag : ℕ) (f : Form) (bytes : List ℕ) (r : List ℕ × List ℕ) → form_at (tag ∷ []) ≡ Some f → content_at tag bytes ≡ Some r → contents_at f r.0 ≡ None → IsOk (component_at bytes) → ⊥
+unfolding tagged component_at
+none_here tag f bytes r t h k ok = elim (by_result (element_at 32 bytes)) [
+  | inl d ↦ let h = h in let no : None ≡ some r = rw d.1 at h in absurd cc
+  | inr p ↦ elim (cases_Bool (is_tag tag p.0.0.tag)) [
+    | inl y ↦
+        let h = h in
+        let same : some (p.0.0.content, p.0.1) ≡ some r = rw (p.1, y) at h in
+        let pair = some_is (p.0.0.content, p.0.1) r same in
+        let form = ap form_at (is_tag-is tag p.0.0.tag y) ∙ t in
+        let unread = ap (λ (q : List ℕ × List ℕ). contents_at f q.0) pair ∙ k in
+        let verdict = verdict_unread p.0.0.tag p.0.0.content f form unread in
+        let ok = ok in
+        let no : IsOk (refused {A = ComponentParts × List ℕ} (fault verdict.0 (front_identifier p.0.0) bytes)) = rw (p.1, verdict.1) at ok in
+        absurd cc
+    | inr n ↦ let h = h in let no : None ≡ some r = rw (p.1, n) at h in absurd cc
+  ]
+]
+
 -- ---- the laws and the clauses of read_component
 
 pub one_component : (c d : ComponentParts) (v w x y : List ℕ) → SpellsComponent c v → SpellsComponent d w → v ++ x ≡ w ++ y → (c ≡ d) × (x ≡ y)
@@ -215,6 +241,14 @@ pub no_component : (c : ComponentParts) (whole rest : List ℕ) (f : FaultParts)
 no_component c whole rest f p q = not_refused f (c, rest) (sym (component_again c whole rest p) ∙ component_told (whole ++ rest) f q)
 
 module _ {X : Type 0} (view : X → ComponentParts × List ℕ) (bytes : List ℕ) where
+  pub found : (r : Result X ComponentFault) → Reads view r (component_at bytes) → IfOk r (λ x. (whole : List ℕ) × SpellsComponent (view x).0 whole × (bytes ≡ whole ++ (view x).1))
+  found (Ok x) e = component_takes bytes (view x) e
+  found (Err f) e = tt
+
+  pub fails : (r : Result X ComponentFault) → Reads view r (component_at bytes) → IfErr r (λ f. IsComponentFault bytes (fault_parts f))
+  fails (Ok x) e = tt
+  fails (Err f) e = component_fails bytes (fault_parts f) e
+
   pub only : (r : Result X ComponentFault) → Reads view r (component_at bytes) → (c : ComponentParts) (whole rest : List ℕ) → SpellsComponent c whole → bytes ≡ whole ++ rest → IsOkAnd r (λ x. ((view x).0 ≡ c) × ((view x).1 ≡ rest))
   only (Ok x) e c whole rest h is =
       let same = read_is {E = FaultParts} (view x) (c, rest) (sym e ∙ (ap component_at is ∙ component_again c whole rest h)) in

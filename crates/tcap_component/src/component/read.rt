@@ -1,11 +1,12 @@
 //! Components read, each by its line of the table in Q.773, and the faults.
 
-ghost use Rattle.std.specs.Prelude.{◌≡◌, ℕ, List, [], ◌++◌, IfSome, IfOk, IfErr, IsOkAnd, if◌then◌else◌};
+ghost use Rattle.std.specs.Prelude.{◌≡◌, ◌+◌, ◌<◌, ◌≤◌, ◌↔◌, ℕ, List, [], ◌++◌, get_or, is_some, length, Ok, IfSome, IfOk, IfErr, IsOk, IsOkAnd, IsTrue, if◌then◌else◌};
 ghost use Rattle.std.specs.Option.{option_map};
 ghost use Rattle.ber_core.specs.Results.{Gives};
 ghost use Rattle.ber_core.specs.Place.{AtEnd};
 ghost use Rattle.ber_core.specs.Tag.{is_constructor};
 ghost use Rattle.ber_core.specs.Views.{parts};
+ghost use Rattle.tcap_component.specs.declared.component.Component.TheVariants as component;
 ghost use Rattle.tcap_component.specs.Place.{FieldsOnWay, ComponentInPlace};
 ghost use Rattle.tcap_component.specs.Problem.{IsProblem, general_problem};
 ghost use Rattle.tcap_component.specs.Component.{ComponentParts, InRange, SpellsComponent};
@@ -225,46 +226,55 @@ pub(crate) fn split_component<'a>(
     }
 }
 
-/// `split_component`, where what stands first is neither a short Return Result Last nor a short Invoke.
-#[inline(never)]
-fn split_rare<'a>(bytes: &'a [u8]) -> Result<(Component<'a>, &'a [u8]), ComponentFault>
-    ensures value { Reads (λ r. (component_parts r.0, r.1.now)) result (component_at bytes.now) }
-    ensures place { IfOk result (λ r. ComponentInPlace r.0 bytes.entry × AtEnd r.1 bytes.entry) }
+/// Reads the first component, where it is a Return Result Last whose length is one octet below 128: its identifier, its
+/// operation code with the parameter, and what follows it, as `read_component` reads them. Nothing where it is another,
+/// or where it can't be read: `read_component` says what stands there.
+// Most components are short results and Invokes. The tag then says the form, and contents that are read whole are a list
+// of elements: nothing is left to be judged. A caller asks for these two first, and takes the others by
+// `read_component`, a call: where that was inlined, places for all that it answers were cleared for each component, 22
+// to 61 instructions a step.
+#[inline(always)]
+pub fn read_short_result<'a>(bytes: &'a [u8]) -> Option<(i8, Option<Body<'a>>, &'a [u8])>
+    // Exactly where the tag and such a length stand first, the content is whole, and a component is read.
+    ensures found { IsTrue (is_some result) ↔ ((get_or bytes.now 0 0 ≡ 0xa2) × (get_or bytes.now 1 0 < 0x80)
+        × (2 + get_or bytes.now 1 0 ≤ length bytes.now) × IsOk (component_at bytes.now)) }
+    // What is read is the first component, and what follows it.
+    ensures exact { IfSome result (λ r. component_at bytes.now
+        ≡ Ok (component_parts (component.ResultLast r.0 r.1), r.2.now)) }
+    ensures writable { IfSome result (λ r. HasParts (component_parts (component.ResultLast r.0 r.1))
+        × InRange (component_parts (component.ResultLast r.0 r.1))) }
+    ensures place { IfSome result (λ r. ComponentInPlace (component.ResultLast r.0 r.1) bytes.entry
+        × AtEnd r.2 bytes.entry) }
 {
-    split_component(bytes)
+    let (content, rest) = take_short(bytes, tag::RETURN_RESULT_LAST)?;
+    let (id, body) = read_result(content)?;
+    Some((id, body, rest))
 }
 
-/// `split_component`, where no short Return Result Last stands first: mostly a short Invoke.
-#[inline(never)]
-fn split_unlike_result<'a>(bytes: &'a [u8]) -> Result<(Component<'a>, &'a [u8]), ComponentFault>
-    ensures value { Reads (λ r. (component_parts r.0, r.1.now)) result (component_at bytes.now) }
-    ensures place { IfOk result (λ r. ComponentInPlace r.0 bytes.entry × AtEnd r.1 bytes.entry) }
+/// `read_short_result`, of an Invoke: its identifier, the one it is linked to, its operation code with the parameter,
+/// and what follows it.
+#[inline(always)]
+pub fn read_short_invoke<'a>(bytes: &'a [u8]) -> Option<(i8, Option<i8>, Body<'a>, &'a [u8])>
+    // Exactly where the tag and such a length stand first, the content is whole, and a component is read.
+    ensures found { IsTrue (is_some result) ↔ ((get_or bytes.now 0 0 ≡ 0xa1) × (get_or bytes.now 1 0 < 0x80)
+        × (2 + get_or bytes.now 1 0 ≤ length bytes.now) × IsOk (component_at bytes.now)) }
+    // What is read is the first component, and what follows it.
+    ensures exact { IfSome result (λ r. component_at bytes.now
+        ≡ Ok (component_parts (component.Invoke r.0 r.1 r.2.code r.2.parameter), r.3.now)) }
+    ensures writable { IfSome result (λ r. HasParts (component_parts (component.Invoke r.0 r.1 r.2.code r.2.parameter))
+        × InRange (component_parts (component.Invoke r.0 r.1 r.2.code r.2.parameter))) }
+    ensures place { IfSome result (λ r. ComponentInPlace (component.Invoke r.0 r.1 r.2.code r.2.parameter) bytes.entry
+        × AtEnd r.3 bytes.entry) }
 {
-    if let Some((content, rest)) = take_short(bytes, tag::INVOKE) {
-        if let Some((id, linked, Body { code, parameter })) = read_invoke_fields(content) {
-            return Ok((
-                Component::Invoke {
-                    id,
-                    linked,
-                    code,
-                    parameter,
-                },
-                rest,
-            ));
-        }
-    }
-    // Given on by its parts. As it is, it would share its place with what is built above, which would then be
-    // moved: 20 instructions an Invoke, and as many a result in `read_component`.
-    match split_rare(bytes) {
-        Ok(first) => Ok(first),
-        Err(fault) => Err(fault),
-    }
+    let (content, rest) = take_short(bytes, tag::INVOKE)?;
+    let (id, linked, body) = read_invoke_fields(content)?;
+    Some((id, linked, body, rest))
 }
 
 /// Reads the first component, and gives what follows it. A component that can't be read has the
 /// first of four faults: its element can't be read, its tag isn't a component's, its contents aren't a
 /// list of elements, they aren't the listed sequence.
-#[inline(always)]
+#[inline(never)]
 pub fn read_component<'a>(bytes: &'a [u8]) -> Result<(Component<'a>, &'a [u8]), ComponentFault>
     // What is read is spelled by the bytes before the rest.
     ensures found { IfOk result (λ r. (whole : List ℕ) × SpellsComponent (component_parts r.0) whole
@@ -282,17 +292,5 @@ pub fn read_component<'a>(bytes: &'a [u8]) -> Result<(Component<'a>, &'a [u8]), 
     // The same, computed: what the layers above cite.
     ensures exact { Reads (λ r. (component_parts r.0, r.1.now)) result (component_at bytes.now) }
 {
-    // Most are a Return Result Last or an Invoke whose length is one octet. The tag then says the form, and
-    // contents that are read whole are a list of elements: nothing is left to be judged. Each of the two
-    // is built where it is given. As one function for all forms, what was read was moved four times on its
-    // way, up to 110 instructions a step.
-    if let Some((content, rest)) = take_short(bytes, tag::RETURN_RESULT_LAST) {
-        if let Some((id, body)) = read_result(content) {
-            return Ok((Component::ResultLast { id, body }, rest));
-        }
-    }
-    match split_unlike_result(bytes) {
-        Ok(first) => Ok(first),
-        Err(fault) => Err(fault),
-    }
+    split_component(bytes)
 }

@@ -144,7 +144,7 @@ impl<A: Allocator + Copy> Indexed<A> {
         self.timers.due_count(clock)
     }
 
-    /// Of these the first by deadline, then number.
+    /// The first Sent invocation, by deadline, then number, whose deadline is at most the clock.
     #[tactic(auto, using(crate::proofs::TimelyLemmas::timely_rules))]
     pub(super) fn first_due(&self, clock: u64) -> Option<Lapse>
         ensures { result ≡ first_due_at clock self.now }

@@ -179,7 +179,7 @@ impl<A: Allocator + Copy> Rows<A> {
         }
     }
 
-    /// Of these the first by deadline, then number.
+    /// The first Sent invocation, by deadline, then number, whose deadline is at most the clock.
     pub(super) fn first_due(&self, clock: u64) -> Option<Lapse>
         ensures { result ≡ first_due_at clock self.now }
     {
