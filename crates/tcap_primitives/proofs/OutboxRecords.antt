@@ -105,9 +105,3 @@ all_read_sent octets to bytes held new rs after a b before kept_to sent pushed f
 pub next_left : {X : Type 0} (xs : List X) (i : ℕ) (x : X) → slice_get xs i ≡ Some x → drop i xs ≡ x ∷ drop (i + 1) xs
 next_left xs i x found =
     drop-cons xs i x (slice_get_within xs i x found) ∙ rw (get_or_from_slice_get xs i x x found, add-one i) refl
-
--- The first of the records fit too.
-pub all_fit_front : (octets : List ℕ) (count : ℕ) (rs : List Record) → AllFit octets rs → AllFit octets (take count rs)
-all_fit_front octets zero rs fit = tt
-all_fit_front octets (suc count) [] fit = tt
-all_fit_front octets (suc count) (r ∷ rs) fit = (fit.0, all_fit_front octets count rs fit.1)

@@ -2,7 +2,7 @@
 
 pub mod sent;
 
-ghost use Rattle.std.specs.Prelude.{◌≡◌, ◌+◌, ◌-◌, ◌^◌, ◌≤◌, ◌<◌, ◌++◌, ◌∷◌, [], true, false, Bool, Option, length, map, take, vec_len, vec_capacity, OnOk, OnErr};
+ghost use Rattle.std.specs.Prelude.{◌≡◌, ◌+◌, ◌-◌, ◌^◌, ◌≤◌, ◌<◌, ◌++◌, ◌∷◌, [], true, false, Bool, Option, length, map, vec_len, vec_capacity, OnOk, OnErr};
 ghost use Rattle.ber_core.specs.Place.{Slice};
 ghost use Rattle.tcap_primitives.specs.IndicationViews.{indicated, indicated_octets, indicated_slices};
 ghost use Rattle.tcap_primitives.specs.OutputViews.{all_shown};
@@ -237,30 +237,6 @@ impl<'m, A: Allocator + Copy, K: SinkKind> Sink<'m, A, K> {
                 id,
                 body,
             });
-        }
-    }
-
-    /// How many outputs it holds.
-    #[inline(always)]
-    pub fn count(&self) -> usize
-        ensures { result ≡ length self.now.outputs }
-    {
-        if K::TO_OUTBOX {
-            self.outbox.len()
-        } else {
-            self.vector.len()
-        }
-    }
-
-    /// Takes back the outputs behind the first so many.
-    pub fn truncate(&mut self, count: usize)
-        ensures outputs { self.new.outputs ≡ take count self.old.outputs }
-        ensures slices { self.new.slices ≡ take count self.old.slices }
-    {
-        if K::TO_OUTBOX {
-            self.outbox.truncate(count);
-        } else {
-            self.vector.truncate(count);
         }
     }
 }

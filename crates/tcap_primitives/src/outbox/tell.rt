@@ -1,6 +1,6 @@
 //! An outbox takes outputs.
 
-ghost use Rattle.std.specs.Prelude.{◌≡◌, ◌+◌, ◌-◌, ◌^◌, ◌≤◌, ◌<◌, ◌++◌, ◌∷◌, [], length, take, vec_len, vec_capacity, None, OnOk, OnErr};
+ghost use Rattle.std.specs.Prelude.{◌≡◌, ◌+◌, ◌-◌, ◌^◌, ◌≤◌, ◌<◌, ◌++◌, ◌∷◌, [], length, vec_len, vec_capacity, None, OnOk, OnErr};
 ghost use Rattle.tcap_model.specs.Words.Output as model;
 ghost use Rattle.tcap_pdu.specs.FrameMeasured.{IsMeasured};
 ghost use Rattle.tcap_pdu.specs.FrameViews.{message};
@@ -147,18 +147,6 @@ impl<A: Allocator + Copy> Outbox<A> {
         let bytes = keep_frame(&mut self.octets, frame, len);
         self.records.push_reserved(Record::Send { to, bytes });
         Ok(())
-    }
-
-    /// Takes back the outputs behind the first so many.
-    // Their octets go with the next `clear`, or here, where nothing is left.
-    pub(crate) fn truncate(&mut self, count: usize)
-        ensures { self.new.outputs ≡ take count self.old.outputs }
-    {
-        if count == 0 {
-            self.clear();
-        } else {
-            self.records.truncate(count);
-        }
     }
 }
 
