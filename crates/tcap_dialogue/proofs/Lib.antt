@@ -1,3 +1,4 @@
+pub mod BeginMemoryLemmas
 pub mod CallerLemmas
 pub mod DialogueRequestLemmas
 pub mod FirstTaken

@@ -1,5 +1,6 @@
 pub mod Aborting
 pub mod AskViews
+pub mod BeginMemory
 pub mod Beginning
 pub mod ComponentRefusals
 pub mod FirstComponent

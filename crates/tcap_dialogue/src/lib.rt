@@ -9,6 +9,7 @@
 mod component_handling;
 mod dialogue;
 
+pub use dialogue::begin_memory::BeginMemory;
 pub use dialogue::requests::{Accepted, Asked};
 pub use dialogue::spares::Spares;
 pub use dialogue::timers::Timer;

@@ -24,7 +24,9 @@ ghost use Rattle.tcap_primitives.specs.declared.indication.Indication.TheVariant
 use super::failures::{take_error, take_reject_back, take_unreadable};
 use super::{Reject, rejecting, unexpected};
 use std::alloc::Allocator;
-use tcap_component::{Body, Code, Component, Problem, read_component};
+use tcap_component::{
+    Body, Code, Component, Problem, read_component, read_short_invoke, read_short_result,
+};
 use tcap_invocation::{Invocations, Verdict};
 use tcap_primitives::{Indication, Sink, SinkKind};
 
@@ -149,10 +151,70 @@ pub(crate) struct Left<'m> {
 /// The first component of what is left: what it comes to. Behind a faulty one nothing is left
 /// (Q.774, Component handling).
 // Each handler tells by itself, so that an `Output`, which is 288 octets, is built in the vector and not moved there.
-// The component is read here, and taken apart where it is read: an item of `Components` is copied five times more on its
-// way, which took 40 to 95 instructions a message, and a component once more, 10 to 20.
+// The component is read here, and taken apart where it is read: an item of `Components` is copied five times more on
+// its way, which took 40 to 95 instructions a message, and a component once more, 10 to 20. A short result is read
+// first, a short Invoke in a call, and all others in one more: with one reader of all, places for what it answers were
+// cleared for each component, 22 to 61 a step.
 #[inline(always)]
 pub(crate) fn take_first<'m, A: Allocator + Copy, K: SinkKind>(
+    invocations: &mut Invocations<A>,
+    dialogue: u32,
+    clock: u64,
+    left: &mut Left<'m>,
+    sink: &mut Sink<'m, A, K>,
+) -> Option<Reject>
+    requires clock { clock ≤ moment_limit }
+    requires room { 1 ≤ sink.old.places }
+    requires octets { length left.old.octets.now ≤ sink.old.octets }
+    requires left { 0 < length left.old.octets.now }
+    ensures { IsFirstTaken dialogue clock left.old.octets left.new.octets sink.old sink.new
+        invocations.old invocations.new result }
+{
+    match read_short_result(left.octets) {
+        Some((id, body, rest)) => {
+            left.octets = rest;
+            take_result(invocations, dialogue, clock, id, body, true, sink)
+        }
+        None => take_unlike_result(invocations, dialogue, clock, left, sink),
+    }
+}
+
+/// `take_first`, where no short Return Result Last stands first: mostly a short Invoke.
+#[inline(never)]
+fn take_unlike_result<'m, A: Allocator + Copy, K: SinkKind>(
+    invocations: &mut Invocations<A>,
+    dialogue: u32,
+    clock: u64,
+    left: &mut Left<'m>,
+    sink: &mut Sink<'m, A, K>,
+) -> Option<Reject>
+    requires clock { clock ≤ moment_limit }
+    requires room { 1 ≤ sink.old.places }
+    requires octets { length left.old.octets.now ≤ sink.old.octets }
+    requires left { 0 < length left.old.octets.now }
+    ensures { IsFirstTaken dialogue clock left.old.octets left.new.octets sink.old sink.new
+        invocations.old invocations.new result }
+{
+    match read_short_invoke(left.octets) {
+        Some((id, linked, body, rest)) => {
+            left.octets = rest;
+            take_invoke(
+                invocations,
+                dialogue,
+                id,
+                linked,
+                body.code,
+                body.parameter,
+                sink,
+            )
+        }
+        None => take_any(invocations, dialogue, clock, left, sink),
+    }
+}
+
+/// `take_first`, of a component of any form.
+#[inline(never)]
+fn take_any<'m, A: Allocator + Copy, K: SinkKind>(
     invocations: &mut Invocations<A>,
     dialogue: u32,
     clock: u64,

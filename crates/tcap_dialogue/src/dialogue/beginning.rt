@@ -2,21 +2,23 @@
 
 // Hints to inline: each step of an engine runs through it; docs/PERF.md says what the whole of it inlined gains.
 
-ghost use Rattle.std.specs.Prelude.{◌≡◌, ℕ, ◌≤◌, Option, true, false, option_copied, IfOk, IfSome, OnOk, OnErr};
+ghost use Rattle.std.specs.Prelude.{◌≡◌, ℕ, ◌+◌, ◌≤◌, [], Option, None, false, length, option_copied, IfOk, IfSome};
 ghost use Rattle.ber_core.specs.ObjectIdentifier.{IsObjectIdentifier};
 ghost use Rattle.ber_core.specs.Place.{Slice};
+ghost use Rattle.tcap_component.specs.ComponentReading.{components_of};
+ghost use Rattle.tcap_dialogue.specs.BeginMemory.{begin_octets, IsBeginMemory};
 ghost use Rattle.tcap_dialogue.specs.Beginning.{begun, begun_from};
 ghost use Rattle.tcap_reception.specs.PortionParts.{GivenIn, context_of_portion, info_of_portion, context_slice};
 ghost use Rattle.tcap_primitives.specs.Slices.{AllInPlace, PartsLieIn, LieInPlace};
 ghost use Rattle.tcap_dialogue.specs.StepViews.{StepsTo, at_clock, outcome};
 ghost use Rattle.tcap_invocation.specs.Stage.{moment_limit};
-ghost use Rattle.tcap_model.specs.Procedures.Refusals.{can_name};
 ghost use Rattle.tcap_model.specs.Table.TableMove.{born};
 
 use super::Dialogue;
-use super::kept_address::keep_names;
+use super::begin_memory::BeginMemory;
+use super::kept_address::keep_found;
 use super::spares::Spares;
-use crate::component_handling::component_portion::{handle_components, reserve_message};
+use crate::component_handling::component_portion::handle_components;
 use ber_core::OutOfMemory;
 use std::alloc::Allocator;
 use tcap_address::Address;
@@ -39,52 +41,6 @@ pub(super) fn parts_of<'m>(pdu: Option<(&'m [u8], &'m [u8])>) -> (Option<&'m [u8
 }
 
 impl<A: Allocator + Copy> Dialogue<A> {
-    /// The Begin to the dialogue, in which nothing has happened: it is told with its components, the Rejects that
-    /// answer them are queued, and the sender's address is kept. All room is found first.
-    #[inline(always)]
-    fn begin_with<'m, K: SinkKind>(
-        &mut self,
-        spares: &mut Spares<A>,
-        from: &Address,
-        otid: &TransId,
-        context: Option<&'m [u8]>,
-        info: &'m [u8],
-        components: &'m [u8],
-        clock: u64,
-        sink: &mut Sink<'m, A, K>,
-    ) -> Result<(), OutOfMemory>
-        requires clock { clock ≤ moment_limit }
-        requires named { can_name (option_copied context) ≡ true }
-        ensures ok { OnOk result (StepsTo sink.old.outputs sink.new.outputs false self.new
-            (outcome (begun_from clock self.old from.now otid.now (option_copied context.entry) info.now
-            components.now))) }
-        ensures err { OnErr result (self.new ≡ self.old) }
-        ensures still { OnErr result (sink.new.outputs ≡ sink.old.outputs) }
-        ensures place { (portion : Option Slice) → PartsLieIn 0x60 context.entry info.entry portion
-            → LieInPlace portion components.entry sink.old.slices → LieInPlace portion components.entry sink.new.slices }
-    {
-        let told = Indication::Begin {
-            dialogue: self.identifier,
-            context,
-            info,
-        };
-        reserve_message(spares, &mut self.queue, &told, components, sink)?;
-        let alloc = *self.queue.octets.allocator();
-        keep_names(alloc, from, context, &mut self.kept, &mut self.context)?;
-        sink.tell(told);
-        handle_components(
-            self.identifier,
-            clock,
-            components,
-            spares,
-            &mut self.invocations,
-            &mut self.queue,
-            sink,
-        );
-        self.phase.receive_begin(otid);
-        Ok(())
-    }
-
     /// The dialogue with this identifier that a Begin creates at this moment, and what is told.
     /// `reject_ms`, `idle_ms` and `clock` are at most 2^62 milliseconds, `from` is the address of its sender,
     /// which is kept, `otid` the originator, `aarq` the contents octets of the application context name and
@@ -113,49 +69,33 @@ impl<A: Allocator + Copy> Dialogue<A> {
         ensures place { (portion : Option Slice) → GivenIn 0x60 aarq.entry portion
             → IfOk result (λ r. AllInPlace portion components.entry r.1.items) }
     {
-        let mut dialogue = Dialogue::fresh(alloc, identifier, reject_ms, idle_ms);
         let mut sink = Sink::vector(alloc);
         let mut spares = Spares::new(alloc);
-        dialogue.receive_begin(&mut spares, from, otid, aarq, components, clock, &mut sink)?;
+        let mut memory = BeginMemory::new(alloc);
+        memory.find(&mut spares, from, aarq, components, &mut sink)?;
+        let mut dialogue = Dialogue::fresh(alloc, identifier, reject_ms, idle_ms);
+        dialogue.receive_begin_with(
+            &mut memory,
+            &mut spares,
+            from,
+            otid,
+            aarq,
+            components,
+            clock,
+            &mut sink,
+        );
         Ok((dialogue, sink.into_vector()))
     }
 
-    /// The Begin that creates the dialogue, in which nothing has happened: what is told; the arguments are those
-    /// of `accept` (Q.774, Dialogue begin).
-    // It stands where it is to stay: a dialogue is 192 octets, and each move on its way into a table copied and
-    // cleared them again.
-    #[tactic(auto, using(crate::proofs::PortionNames::named_given))]
-    #[inline(always)]
-    fn receive_begin<'m, K: SinkKind>(
-        &mut self,
-        spares: &mut Spares<A>,
-        from: &Address,
-        otid: &TransId,
-        aarq: Option<(&'m [u8], &'m [u8])>,
-        components: &'m [u8],
-        clock: u64,
-        sink: &mut Sink<'m, A, K>,
-    ) -> Result<(), OutOfMemory>
-        requires clock { clock ≤ moment_limit }
-        requires named { IfSome aarq (λ a. IsObjectIdentifier a.0.now) }
-        ensures ok { OnOk result (StepsTo sink.old.outputs sink.new.outputs false self.new
-            (outcome (begun_from clock self.old from.now otid.now (context_of_portion aarq.entry)
-            (info_of_portion aarq.entry) components.now))) }
-        ensures err { OnErr result (self.new ≡ self.old) }
-        ensures still { OnErr result (sink.new.outputs ≡ sink.old.outputs) }
-        ensures place { (portion : Option Slice) → GivenIn 0x60 aarq.entry portion
-            → LieInPlace portion components.entry sink.old.slices → LieInPlace portion components.entry sink.new.slices }
-    {
-        let (context, info) = parts_of(aarq);
-        self.begin_with(spares, from, otid, context, info, components, clock, sink)
-    }
-
     /// The Begin that creates the dialogue, in which nothing has happened: what is told is appended to what a sink
-    /// holds. The arguments are those of `accept`. The Rejects that answer its components take memory that other
-    /// dialogues left (Q.774, Dialogue begin).
+    /// holds. The arguments are those of `accept`, and the memory is what `BeginMemory::find` found for this Begin
+    /// (Q.774, Dialogue begin).
+    // The dialogue stands where it is to stay: it is 192 octets, and made before it stands in a table it was moved there,
+    // 70 to 85 instructions a Begin. So all memory is found first, and nothing is refused any more.
     #[inline(always)]
     pub fn receive_begin_with<'m, K: SinkKind>(
         &mut self,
+        memory: &mut BeginMemory<A>,
         spares: &mut Spares<A>,
         from: &Address,
         otid: &TransId,
@@ -163,21 +103,39 @@ impl<A: Allocator + Copy> Dialogue<A> {
         components: &'m [u8],
         clock: u64,
         sink: &mut Sink<'m, A, K>,
-    ) -> Result<(), OutOfMemory>
+    )
         requires clock { clock ≤ moment_limit }
-        requires named { IfSome aarq (λ a. IsObjectIdentifier a.0.now) }
+        requires queue { self.old.standing.queue ≡ [] }
+        requires context { self.old.standing.context ≡ None }
+        requires found { IsBeginMemory memory.old spares.old from.now (context_of_portion aarq)
+            (length (components_of components.now)) }
+        requires places { 1 + length (components_of components.now) ≤ sink.old.places }
+        requires octets { begin_octets aarq + length components.now ≤ sink.old.octets }
         // What is told, and the dialogue.
-        ensures ok { OnOk result (StepsTo sink.old.outputs sink.new.outputs false self.new
+        ensures told { StepsTo sink.old.outputs sink.new.outputs false self.new
             (outcome (begun_from clock self.old from.now otid.now (context_of_portion aarq.entry)
-            (info_of_portion aarq.entry) components.now))) }
-        ensures err { OnErr result (self.new ≡ self.old) }
-        ensures still { OnErr result (sink.new.outputs ≡ sink.old.outputs) }
+            (info_of_portion aarq.entry) components.now)) }
         // The slices that are told are those that were given, and parts of the component portion.
         ensures place { (portion : Option Slice) → GivenIn 0x60 aarq.entry portion
             → LieInPlace portion components.entry sink.old.slices → LieInPlace portion components.entry sink.new.slices }
     {
-        let begun = self.receive_begin(spares, from, otid, aarq, components, clock, sink);
-        self.leave_queue(spares);
-        begun
+        let (context, info) = parts_of(aarq);
+        sink.tell(Indication::Begin {
+            dialogue: self.identifier,
+            context,
+            info,
+        });
+        handle_components(
+            self.identifier,
+            clock,
+            components,
+            spares,
+            &mut self.invocations,
+            &mut memory.queue,
+            sink,
+        );
+        self.take_queue(spares, &mut memory.queue);
+        keep_found(from, &mut memory.names, &mut self.kept, &mut self.context);
+        self.phase.receive_begin(otid);
     }
 }

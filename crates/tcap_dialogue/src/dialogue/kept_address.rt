@@ -2,7 +2,8 @@
 
 // Its calls are inlined: apart they moved the address twice more, 60 instructions a turn of `register`.
 
-ghost use Rattle.std.specs.Prelude.{◌≡◌, ◌≤◌, ◌<◌, ◌↔◌, [], IfOk, IsTrue, OnOk, OnErr, length, take, true, option_copied, None};
+ghost use Rattle.std.specs.Prelude.{◌≡◌, ◌≤◌, ◌<◌, ◌↔◌, ℕ, List, [], Option, IfNone, IfOk, IsTrue, OnOk, OnErr, length, take, true, option_copied, None};
+ghost use Rattle.tcap_dialogue.specs.BeginMemory.{AreNames};
 ghost use Rattle.tcap_dialogue.specs.KeptOctets.{IsKept, kept_octets, most_in_place};
 ghost use Rattle.tcap_primitives.specs.ContextViews.{context_view};
 ghost use Rattle.tcap_model.specs.Procedures.Refusals.{can_name};
@@ -134,7 +135,8 @@ impl<A: Allocator + Copy> KeptAddress<A> {
         ensures { self.new ≡ address.now }
     {
         let octets = address.octets();
-        // Where it stands, if one stands there: made apart it was moved twice, 10 to 17 instructions a step.
+        // Where it stands, if one stands there: made apart it was moved twice, 10 to 17 instructions a step by an
+        // outbox.
         match &mut self.held {
             Held::InPlace(short) => short.set(octets),
             Held::Apart(_) => self.give_up_block(octets),
@@ -221,25 +223,24 @@ pub(super) fn keep_short<A: Allocator + Copy>(
     }
 }
 
-/// Keeps the address of the peer and the context that it named.
+/// Keeps the address of the peer and the context that it named, of which copies were made where they take memory.
 #[inline(always)]
-pub(super) fn keep_names<A: Allocator + Copy>(
-    alloc: A,
+pub(super) fn keep_found<A: Allocator + Copy>(
     peer: &Address,
-    named: Option<&[u8]>,
+    found: &mut Option<Names<A>>,
     kept: &mut KeptAddress<A>,
     context: &mut Option<Context<A>>,
-) -> Result<(), OutOfMemory>
-    requires named { can_name (option_copied named) ≡ true }
-    ensures ok { OnOk result ((kept.new ≡ peer.now) × (context_view context.new ≡ option_copied named.entry)) }
-    ensures err { OnErr result ((kept.new ≡ kept.old) × (context_view context.new ≡ context_view context.old)) }
+)
+    requires none { context_view context.old ≡ None }
+    requires short { IfNone found.old (length peer.now ≤ most_in_place) }
+    ensures kept { (named : Option (List ℕ)) → AreNames found.old peer.now named → kept.new ≡ peer.now }
+    ensures context { (named : Option (List ℕ)) → AreNames found.old peer.now named → context_view context.new ≡ named }
 {
-    if named.is_none() && is_short(peer) {
-        keep_short(peer, kept, context);
-        return Ok(());
+    match found.take() {
+        Some(names) => {
+            *kept = names.kept;
+            *context = names.context;
+        }
+        None => kept.set_short(peer),
     }
-    let names = Names::of(alloc, peer, named)?;
-    *kept = names.kept;
-    *context = names.context;
-    Ok(())
 }

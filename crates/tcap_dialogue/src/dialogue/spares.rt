@@ -4,6 +4,7 @@ ghost use Rattle.std.specs.Prelude.{◌≡◌, ◌<◌, ◌≤◌, ◌↔◌, []
 ghost use Rattle.tcap_dialogue.specs.RejectRoom.{FindRejectRoom, HasRejectRoom, IsBare};
 ghost use Rattle.tcap_invocation.specs.Invocations.{AllBelow};
 ghost use Rattle.tcap_invocation.specs.Stage.{moment_limit};
+ghost use Rattle.tcap_model.specs.Table.Dialogue.{with_queue};
 ghost use Rattle.tcap_primitives.specs.QueueViews.{queue_view};
 
 use super::Dialogue;
@@ -73,7 +74,7 @@ impl<A: Allocator + Copy> Spares<A> {
             return;
         }
         if let Some(found) = self.queues.pop() {
-            // It has no memory to give back: to look for it took 4 to 18 instructions a step.
+            // What stood there has no memory to give back: to look for it took 4 to 18 instructions a step.
             mem::forget(mem::replace(queue, found));
             queue.clear();
         }
@@ -182,6 +183,20 @@ impl<A: Allocator + Copy> Dialogue<A> {
     {
         if self.queue.octets.capacity() > 0 && self.queue.parts.is_empty() {
             spares.keep_queue(&mut self.queue);
+        }
+    }
+
+    /// Its empty queue becomes this one, of the Rejects that answer the Begin which creates it; where there are none, the
+    /// memory of that one is left to others. It takes none.
+    #[inline(always)]
+    pub(super) fn take_queue(&mut self, spares: &mut Spares<A>, queue: &mut Queue<A>)
+        requires { self.old.standing.queue ≡ [] }
+        ensures { self.new ≡ with_queue self.old (queue_view queue.old) }
+    {
+        if !queue.parts.is_empty() {
+            mem::swap(&mut self.queue, queue);
+        } else if queue.octets.capacity() > 0 {
+            spares.keep_queue(queue);
         }
     }
 
