@@ -12,14 +12,14 @@ use Rattle.tcap_primitives.specs.QueueViews.{queue_view}
 use Rattle.tcap_reception.specs.PortionParts.{Given, context_slice, info_of_portion}
 
 -- The octets that the TC-BEGIN indication names: those of the context and of the information (own).
-abbrev pub begin_octets : Given → ℕ
-begin_octets aarq = optional_octets (context_slice aarq) + length (info_of_portion aarq)
+abbrev pub begin_indication_octets : Given → ℕ
+begin_indication_octets aarq = optional_octets (context_slice aarq) + length (info_of_portion aarq)
 
 module _ {A : Type 0} where
   -- The address of the peer and the context that it named were copied, or take no memory (own).
-  abbrev pub AreNames : Option (Names A) → Address → Option (List ℕ) → Type 0
-  AreNames None from context = (length from ≤ most_in_place) × (context ≡ None)
-  AreNames (Some names) from context = (names.kept ≡ from) × (context_view names.context ≡ context)
+  abbrev pub AreNamesOf : Option (Names A) → Address → Option (List ℕ) → Type 0
+  AreNamesOf None from context = (length from ≤ most_in_place) × (context ≡ None)
+  AreNamesOf (Some names) from context = (names.kept ≡ from) × (context_view names.context ≡ context)
 
   -- Nothing was found yet (own).
   abbrev pub HoldsNothing : BeginMemory A → Type 0
@@ -30,4 +30,4 @@ module _ {A : Type 0} where
   pub record IsBeginMemory (memory : BeginMemory A) (spares : Spares A) (from : Address) (context : Option (List ℕ)) (components : ℕ) : Type 0 where
     pub is_empty : queue_view memory.queue ≡ []
     pub has_room : FindRejectRoom spares memory.queue components
-    pub are_names : AreNames memory.names from context
+    pub are_names : AreNamesOf memory.names from context

@@ -44,7 +44,8 @@ pub struct Step<'m, A: Allocator = Global> {
 ///   and `free_due`; the end of one that was idle too long: `abort_idle`, or one by one `open_count`,
 ///   `close_one`; or it is postponed by `touch`.
 /// - Into a sink: `ask_with`, `receive_begin_with` and `take_frame_with`, with the memory that other dialogues left
-///   (`Spares`); `take_faulty`. `BeginMemory` finds what a Begin takes. `leave_memory` leaves its own memory to others.
+///   (`Spares`); `take_faulty`. `BeginMemory` finds the memory that a Begin takes. `leave_memory` leaves its own memory
+///   to others.
 /// - Getters: `identifier`, `state`, `peer`, `kept`, `check_invoke`, `message_length`, `next_timer`, `idle_at`.
 ///
 /// Moments are in milliseconds by the caller's clock, at most 2^62. A contract sees the identifier,

@@ -1,8 +1,9 @@
 //! One component of a message to a dialogue: an Invoke or a result; of all others see failures.rt.
 
-// The handlers of Invokes and results are inlined into the two loops over components: as calls of their own they took
-// what they tell through memory, 270 to 420 instructions a step. Those of errors, Rejects and faults are rarer, and stand
-// apart: with them the toolchain would inline none, 80 to 170 a step.
+// The handlers of Invokes and results are inlined where a component of theirs is read, that of a short last result into
+// the two loops over components: as calls of their own they took what they tell through memory, 270 to 420 instructions
+// a step. Those of errors, Rejects and faults are rarer, and stand apart: with them the toolchain would inline none, 80
+// to 170 a step.
 
 ghost use Rattle.std.specs.Option.{option_map};
 ghost use Rattle.std.specs.Prelude.{◌≡◌, ◌+◌, ◌<◌, ◌≤◌, length, Some, option_copied, ◌++◌, ◌∷◌, [], Option};
@@ -154,7 +155,7 @@ pub(crate) struct Left<'m> {
 // The component is read here, and taken apart where it is read: an item of `Components` is copied five times more on
 // its way, which took 40 to 95 instructions a message, and a component once more, 10 to 20. A short result is read
 // first, a short Invoke in a call, and all others in one more: with one reader of all, places for what it answers were
-// cleared for each component, 22 to 61 a step.
+// cleared for each component, 22 to 62 a step.
 #[inline(always)]
 pub(crate) fn take_first<'m, A: Allocator + Copy, K: SinkKind>(
     invocations: &mut Invocations<A>,
@@ -208,13 +209,13 @@ fn take_unlike_result<'m, A: Allocator + Copy, K: SinkKind>(
                 sink,
             )
         }
-        None => take_any(invocations, dialogue, clock, left, sink),
+        None => take_of_any_form(invocations, dialogue, clock, left, sink),
     }
 }
 
 /// `take_first`, of a component of any form.
 #[inline(never)]
-fn take_any<'m, A: Allocator + Copy, K: SinkKind>(
+fn take_of_any_form<'m, A: Allocator + Copy, K: SinkKind>(
     invocations: &mut Invocations<A>,
     dialogue: u32,
     clock: u64,

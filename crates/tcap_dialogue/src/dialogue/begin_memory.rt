@@ -2,11 +2,13 @@
 
 // Hints to inline: each step of an engine runs through it; docs/PERF.md says what the whole of it inlined gains.
 
-ghost use Rattle.std.specs.Prelude.{◌≡◌, ◌+◌, ◌≤◌, Option, length, IfSome, OnOk};
+ghost use Rattle.std.specs.Prelude.{◌≡◌, ◌+◌, ◌≤◌, [], true, Option, None, length, option_copied, IfSome, OnErr, OnOk};
 ghost use Rattle.ber_core.specs.ObjectIdentifier.{IsObjectIdentifier};
 ghost use Rattle.ber_core.specs.Place.{Slice};
 ghost use Rattle.tcap_component.specs.ComponentReading.{components_of};
-ghost use Rattle.tcap_dialogue.specs.BeginMemory.{begin_octets, HoldsNothing, IsBeginMemory};
+ghost use Rattle.tcap_dialogue.specs.BeginMemory.{begin_indication_octets, AreNamesOf, HoldsNothing, IsBeginMemory};
+ghost use Rattle.tcap_model.specs.Procedures.Refusals.{can_name};
+ghost use Rattle.tcap_primitives.specs.QueueViews.{queue_view};
 ghost use Rattle.tcap_primitives.specs.Slices.{LieInPlace};
 ghost use Rattle.tcap_reception.specs.PortionParts.{context_of_portion};
 
@@ -20,7 +22,7 @@ use tcap_address::Address;
 use tcap_primitives::{Indication, Queue, Sink, SinkKind};
 
 /// The memory that a Begin takes: a queue with room for the Rejects that answer its components, unless what other
-/// dialogues left has it, and copies of the address of its sender and of its context, where they take memory.
+/// dialogues left has it, and copies of the address of its sender and of its context, where they take memory (our own).
 #[derive(Drop)]
 pub struct BeginMemory<A: Allocator + Copy = Global> {
     pub(super) queue: Queue<A>,
@@ -28,7 +30,7 @@ pub struct BeginMemory<A: Allocator + Copy = Global> {
 }
 
 impl<A: Allocator + Copy> BeginMemory<A> {
-    /// Nothing yet; takes no memory.
+    /// Nothing yet; takes no memory (own).
     #[inline(always)]
     pub fn new(alloc: A) -> Self
         ensures { HoldsNothing result }
@@ -43,7 +45,8 @@ impl<A: Allocator + Copy> BeginMemory<A> {
     }
 
     /// Finds all memory that a Begin takes, that for what it tells in a sink. The arguments are those of
-    /// `Dialogue::accept`. Where some is refused, the sink holds what it held, and what was found goes with this value.
+    /// `Dialogue::accept`. The only error is that memory was refused: then nothing is held, and what other dialogues
+    /// left is theirs again (Q.774, Dialogue begin).
     #[tactic(auto, using(crate::proofs::PortionNames::named_given))]
     #[inline(always)]
     pub fn find<'m, K: SinkKind>(
@@ -58,9 +61,10 @@ impl<A: Allocator + Copy> BeginMemory<A> {
         requires named { IfSome aarq (λ a. IsObjectIdentifier a.0.now) }
         ensures found { OnOk result (IsBeginMemory self.new spares.new from.now (context_of_portion aarq.entry)
             (length (components_of components.now))) }
+        ensures err { OnErr result (HoldsNothing self.new) }
         ensures still { sink.new.outputs ≡ sink.old.outputs }
         ensures places { OnOk result (1 + length (components_of components.now) ≤ sink.new.places) }
-        ensures octets { OnOk result (begin_octets aarq.entry + length components.now ≤ sink.new.octets) }
+        ensures octets { OnOk result (begin_indication_octets aarq.entry + length components.now ≤ sink.new.octets) }
         ensures place { (portion : Option Slice) (other : Slice) → LieInPlace portion other sink.old.slices
             → LieInPlace portion other sink.new.slices }
     {
@@ -71,11 +75,40 @@ impl<A: Allocator + Copy> BeginMemory<A> {
             context,
             info,
         };
-        reserve_message(spares, &mut self.queue, &told, components, sink)?;
+        if reserve_message(spares, &mut self.queue, &told, components, sink).is_err()
+            || self.copy_names(from, context).is_err()
+        {
+            self.leave(spares);
+            return Err(OutOfMemory);
+        }
+        Ok(())
+    }
+
+    /// Copies the address of the peer and the context that it named, where they take memory.
+    #[inline(always)]
+    fn copy_names(&mut self, from: &Address, context: Option<&[u8]>) -> Result<(), OutOfMemory>
+        requires nothing { self.old.names ≡ None }
+        requires named { can_name (option_copied context) ≡ true }
+        ensures queue { self.new.queue ≡ self.old.queue }
+        ensures names { OnOk result (AreNamesOf self.new.names from.now (option_copied context.entry)) }
+    {
         if context.is_some() || !is_short(from) {
             let alloc = *self.queue.octets.allocator();
             self.names = Some(Names::of(alloc, from, context)?);
         }
         Ok(())
+    }
+
+    /// Leaves what was found to other dialogues: the Begin is refused. It takes no memory (own).
+    // It is rare, and kept out of what each Begin runs through.
+    #[inline(never)]
+    pub fn leave(&mut self, spares: &mut Spares<A>)
+        requires { queue_view self.old.queue ≡ [] }
+        ensures { HoldsNothing self.new }
+    {
+        self.names = None;
+        if self.queue.octets.capacity() > 0 {
+            spares.keep_queue(&mut self.queue);
+        }
     }
 }

@@ -2,11 +2,11 @@
 
 // Hints to inline: each step of an engine runs through it; docs/PERF.md says what the whole of it inlined gains.
 
-ghost use Rattle.std.specs.Prelude.{◌≡◌, ℕ, ◌+◌, ◌≤◌, [], Option, None, false, length, option_copied, IfOk, IfSome};
+ghost use Rattle.std.specs.Prelude.{◌≡◌, ℕ, ◌+◌, ◌≤◌, [], Option, false, length, option_copied, IfOk, IfSome};
 ghost use Rattle.ber_core.specs.ObjectIdentifier.{IsObjectIdentifier};
 ghost use Rattle.ber_core.specs.Place.{Slice};
 ghost use Rattle.tcap_component.specs.ComponentReading.{components_of};
-ghost use Rattle.tcap_dialogue.specs.BeginMemory.{begin_octets, IsBeginMemory};
+ghost use Rattle.tcap_dialogue.specs.BeginMemory.{begin_indication_octets, HoldsNothing, IsBeginMemory};
 ghost use Rattle.tcap_dialogue.specs.Beginning.{begun, begun_from};
 ghost use Rattle.tcap_reception.specs.PortionParts.{GivenIn, context_of_portion, info_of_portion, context_slice};
 ghost use Rattle.tcap_primitives.specs.Slices.{AllInPlace, PartsLieIn, LieInPlace};
@@ -88,10 +88,10 @@ impl<A: Allocator + Copy> Dialogue<A> {
     }
 
     /// The Begin that creates the dialogue, in which nothing has happened: what is told is appended to what a sink
-    /// holds. The arguments are those of `accept`, and the memory is what `BeginMemory::find` found for this Begin
-    /// (Q.774, Dialogue begin).
-    // The dialogue stands where it is to stay: it is 192 octets, and made before it stands in a table it was moved there,
-    // 70 to 85 instructions a Begin. So all memory is found first, and nothing is refused any more.
+    /// holds. The arguments are those of `accept`, and the memory is what `BeginMemory::find` found for this Begin,
+    /// which then holds nothing (Q.774, Dialogue begin).
+    // The dialogue stands where it is to stay: it is 192 octets, and made before it stands in a table it was moved
+    // there, some 64 instructions a Begin. So all memory is found first, and nothing is refused any more.
     #[inline(always)]
     pub fn receive_begin_with<'m, K: SinkKind>(
         &mut self,
@@ -106,18 +106,19 @@ impl<A: Allocator + Copy> Dialogue<A> {
     )
         requires clock { clock ≤ moment_limit }
         requires queue { self.old.standing.queue ≡ [] }
-        requires context { self.old.standing.context ≡ None }
         requires found { IsBeginMemory memory.old spares.old from.now (context_of_portion aarq)
             (length (components_of components.now)) }
         requires places { 1 + length (components_of components.now) ≤ sink.old.places }
-        requires octets { begin_octets aarq + length components.now ≤ sink.old.octets }
+        requires octets { begin_indication_octets aarq + length components.now ≤ sink.old.octets }
+        ensures nothing { HoldsNothing memory.new }
         // What is told, and the dialogue.
         ensures told { StepsTo sink.old.outputs sink.new.outputs false self.new
             (outcome (begun_from clock self.old from.now otid.now (context_of_portion aarq.entry)
             (info_of_portion aarq.entry) components.now)) }
         // The slices that are told are those that were given, and parts of the component portion.
         ensures place { (portion : Option Slice) → GivenIn 0x60 aarq.entry portion
-            → LieInPlace portion components.entry sink.old.slices → LieInPlace portion components.entry sink.new.slices }
+            → LieInPlace portion components.entry sink.old.slices
+            → LieInPlace portion components.entry sink.new.slices }
     {
         let (context, info) = parts_of(aarq);
         sink.tell(Indication::Begin {

@@ -3,7 +3,7 @@
 // Its calls are inlined: apart they moved the address twice more, 60 instructions a turn of `register`.
 
 ghost use Rattle.std.specs.Prelude.{◌≡◌, ◌≤◌, ◌<◌, ◌↔◌, ℕ, List, [], Option, IfNone, IfOk, IsTrue, OnOk, OnErr, length, take, true, option_copied, None};
-ghost use Rattle.tcap_dialogue.specs.BeginMemory.{AreNames};
+ghost use Rattle.tcap_dialogue.specs.BeginMemory.{AreNamesOf};
 ghost use Rattle.tcap_dialogue.specs.KeptOctets.{IsKept, kept_octets, most_in_place};
 ghost use Rattle.tcap_primitives.specs.ContextViews.{context_view};
 ghost use Rattle.tcap_model.specs.Procedures.Refusals.{can_name};
@@ -231,16 +231,17 @@ pub(super) fn keep_found<A: Allocator + Copy>(
     kept: &mut KeptAddress<A>,
     context: &mut Option<Context<A>>,
 )
-    requires none { context_view context.old ≡ None }
-    requires short { IfNone found.old (length peer.now ≤ most_in_place) }
-    ensures kept { (named : Option (List ℕ)) → AreNames found.old peer.now named → kept.new ≡ peer.now }
-    ensures context { (named : Option (List ℕ)) → AreNames found.old peer.now named → context_view context.new ≡ named }
+    requires { IfNone found.old (length peer.now ≤ most_in_place) }
+    ensures found { found.new ≡ None }
+    ensures kept { (named : Option (List ℕ)) → AreNamesOf found.old peer.now named → kept.new ≡ peer.now }
+    ensures context { (named : Option (List ℕ)) → AreNamesOf found.old peer.now named
+        → context_view context.new ≡ named }
 {
     match found.take() {
         Some(names) => {
             *kept = names.kept;
             *context = names.context;
         }
-        None => kept.set_short(peer),
+        None => keep_short(peer, kept, context),
     }
 }

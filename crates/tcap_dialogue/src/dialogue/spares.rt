@@ -186,12 +186,13 @@ impl<A: Allocator + Copy> Dialogue<A> {
         }
     }
 
-    /// Its empty queue becomes this one, of the Rejects that answer the Begin which creates it; where there are none, the
-    /// memory of that one is left to others. It takes none.
+    /// Its empty queue becomes this one, of the Rejects that answer the Begin which creates it; where there are none,
+    /// the memory of that one is left to others. It takes none.
     #[inline(always)]
     pub(super) fn take_queue(&mut self, spares: &mut Spares<A>, queue: &mut Queue<A>)
         requires { self.old.standing.queue ≡ [] }
-        ensures { self.new ≡ with_queue self.old (queue_view queue.old) }
+        ensures dialogue { self.new ≡ with_queue self.old (queue_view queue.old) }
+        ensures queue { queue_view queue.new ≡ [] }
     {
         if !queue.parts.is_empty() {
             mem::swap(&mut self.queue, queue);

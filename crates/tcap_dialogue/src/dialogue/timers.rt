@@ -89,10 +89,11 @@ impl<A: Allocator + Copy> Dialogue<A> {
         if time <= clock { Some(time) } else { None }
     }
 
-    /// The first timer runs out, if its moment is at most the clock, which is at most 2^62: an invocation lapses, which is
-    /// told (TC-L-CANCEL indication), or each identifier whose wait is over then is free, or the end of the dialogue, which
-    /// has been idle too long, is put off as by `touch`. At one moment the idle limit comes last. What it was of, or
-    /// nothing where no moment is reached. There is room for all that lapses by the clock. It takes no memory.
+    /// The first timer runs out, if its moment is at most the clock, which is at most 2^62: an invocation lapses, which
+    /// is told (TC-L-CANCEL indication), or each identifier whose wait is over then is free, or the end of the
+    /// dialogue, which has been idle too long, is put off as by `touch`. At one moment the idle limit comes last. What
+    /// it was of, or nothing where no moment is reached. There is room for all that lapses by the clock. It takes no
+    /// memory.
     pub fn expire_first<'m, K: SinkKind>(
         &mut self,
         clock: u64,

@@ -1,8 +1,8 @@
 use Rattle.tcap_dialogue.proofs.BeginMemoryLemmas.{short-names}
 use Rattle.tcap_dialogue.proofs.dialogue.Dialogue.receive_begin_with.Goals as goal
 
-pub keep_found-requires-clause-short : goal.keep_found-requires-clause-short
-keep_found-requires-clause-short g c = short-names c.args.memory.now.names c.args.from.now _ c.requires.found.are_names
+pub keep_found-requires : goal.keep_found-requires
+keep_found-requires g c = short-names c.args.memory.now.names c.args.from.now _ c.requires.found.are_names
 
 pub returns-clause-place : goal.returns-clause-place
 returns-clause-place g c portion given before =

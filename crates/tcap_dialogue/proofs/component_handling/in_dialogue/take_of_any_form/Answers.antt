@@ -5,7 +5,7 @@ use Rattle.tcap_component.specs.ComponentReading.{component_at, components_by}
 use Rattle.tcap_component.specs.declared.component.Component.TheVariants as component
 use Rattle.tcap_component.specs.Views.{component_parts, fault_parts}
 use Rattle.tcap_dialogue.proofs.FirstTaken.{first-taken, room-for}
-use Rattle.tcap_dialogue.proofs.component_handling.in_dialogue.take_any.Goals as goal
+use Rattle.tcap_dialogue.proofs.component_handling.in_dialogue.take_of_any_form.Goals as goal
 
 pub take_invoke-requires-clause-octets : goal.take_invoke-requires-clause-octets
 take_invoke-requires-clause-octets g c =
