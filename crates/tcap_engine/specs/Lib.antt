@@ -1,4 +1,5 @@
 pub mod AnswerKinds
+pub mod Creation
 pub mod DialogueEntries
 pub mod EventViews
 pub mod HistoryForm

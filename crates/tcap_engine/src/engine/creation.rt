@@ -2,16 +2,20 @@
 
 // Hints to inline: each step of an engine runs through it; docs/PERF.md says what the whole of it inlined gains.
 
-ghost use Rattle.std.specs.Prelude.{◌≡◌, ◌<◌, ◌+◌, None, OnErr, OnOk, IfSome, option_copied};
+ghost use Rattle.std.specs.Prelude.{◌≡◌, ◌<◌, ◌≤◌, ◌+◌, ◌++◌, ◌∷◌, [], None, false, OnErr, OnOk, IfSome, option_copied};
 ghost use Rattle.std.specs.Option.{option_map};
 ghost use Rattle.ber_core.specs.ObjectIdentifier.{IsObjectIdentifier};
+ghost use Rattle.tcap_dialogue.specs.StepViews.{StepsTo, outcome};
 ghost use Rattle.tcap_reception.specs.PortionParts.{context_of_portion, info_of_portion};
 ghost use Rattle.tcap_primitives.specs.FaultViews.{fault_view};
 ghost use Rattle.tcap_model.specs.Table.Dialogue.{fresh_dialogue};
+ghost use Rattle.tcap_engine.specs.Creation.{created_by};
 ghost use Rattle.tcap_engine.specs.StepForm.{EngineAnswers, ReceivesInto, birth_answer};
 ghost use Rattle.tcap_engine.specs.HistoryForm.{Stands};
-ghost use Rattle.tcap_engine.specs.DialogueEntries.{IsWithin, with_created};
+ghost use Rattle.tcap_engine.specs.DialogueEntries.{AreDrawn, IsWithin, with_created};
 ghost use Rattle.tcap_engine.specs.Lapsing.{timer_of};
+ghost use Rattle.tcap_engine.specs.Limits.{AreLimits};
+ghost use Rattle.tcap_invocation.specs.Stage.{moment_limit};
 ghost use Rattle.tcap_model.specs.Table.EngineMove.{engine_move, begun_in, birth_fault_in, setting_in, received_in};
 ghost use Rattle.tcap_model.specs.Table.TableMove.{born};
 ghost use Rattle.tcap_model.specs.Words.Event.{Event};
@@ -20,9 +24,13 @@ ghost use Rattle.tcap_model.specs.Procedures.PortionRules.{begin_verdict};
 ghost use Rattle.tcap_model.specs.Procedures.Reception.{begin_by};
 
 use super::Engine;
+use crate::dialogues::Dialogues;
+use crate::limits::Limits;
 use ber_core::OutOfMemory;
 use std::alloc::Allocator;
-use tcap_dialogue::{Abort, Address, BeginVerdict, Dialogue, Fault, Sink, SinkKind, judge_begin};
+use tcap_dialogue::{
+    Abort, Address, BeginMemory, BeginVerdict, Dialogue, Fault, Sink, SinkKind, judge_begin,
+};
 use tcap_pdu::TransId;
 use tcap_reception::AarqParts;
 
@@ -102,10 +110,11 @@ impl<A: Allocator + Copy> Engine<A> {
             from.now origin.now (context_of_portion request.entry) (info_of_portion request.entry) components.now))
             self.old self.new }
     {
-        let count = sink.count();
-        let mut dialogue = self.fresh();
-        dialogue.receive_begin_with(
-            &mut self.table.spares,
+        let identifier = self.next_dialogue;
+        begin_in(
+            &mut self.table,
+            identifier,
+            &self.limits,
             from,
             origin,
             request,
@@ -113,10 +122,7 @@ impl<A: Allocator + Copy> Engine<A> {
             self.clock,
             sink,
         )?;
-        if self.keep(dialogue).is_err() {
-            sink.truncate(count);
-            return Err(OutOfMemory);
-        }
+        self.next_dialogue = next_identifier(identifier);
         Ok(())
     }
 
@@ -135,8 +141,7 @@ impl<A: Allocator + Copy> Engine<A> {
     }
 
     /// Takes in a dialogue that is created under the next identifier, which is drawn then.
-    // A dialogue is 192 octets: built in place, it isn't moved from call to call on its way into the table. One that
-    // memory refuses gives its own back, and not to other dialogues.
+    // A dialogue is 192 octets: built in place, it isn't moved from call to call on its way into the table.
     #[inline(always)]
     fn keep(&mut self, dialogue: Dialogue<A>) -> Result<(), OutOfMemory>
         requires free { birth_fault_in self.old ≡ None }
@@ -166,6 +171,55 @@ impl<A: Allocator + Copy> Engine<A> {
             None
         }
     }
+}
+
+/// A Begin creates the dialogue of an identifier above all others: what is told, and the dialogue stands behind them.
+/// All memory is found first; where some is refused, what other dialogues left is theirs again.
+// The Begin is taken where the dialogue stands: made before, its 192 octets were moved there, some 64 instructions a
+// Begin.
+#[inline(always)]
+fn begin_in<'m, A: Allocator + Copy, K: SinkKind>(
+    table: &mut Dialogues<A>,
+    identifier: u32,
+    limits: &Limits,
+    from: &Address,
+    origin: &TransId,
+    request: AarqParts<'m>,
+    components: &'m [u8],
+    clock: u64,
+    sink: &mut Sink<'m, A, K>,
+) -> Result<(), OutOfMemory>
+    requires limits { AreLimits limits.now }
+    requires clock { clock ≤ moment_limit }
+    requires drawn { AreDrawn identifier table.old }
+    requires named { IfSome request (λ r. IsObjectIdentifier r.0.now) }
+    ensures told { let m = created_by clock identifier limits.now from.now origin.now request.entry components.now in
+        OnOk result (StepsTo sink.old.outputs sink.new.outputs false m.after (outcome m)) }
+    ensures table { let m = created_by clock identifier limits.now from.now origin.now request.entry components.now in
+        OnOk result (table.new ≡ table.old ++ (identifier, m.after) ∷ []) }
+    ensures err { OnErr result (table.new ≡ table.old) }
+    ensures still { OnErr result (sink.new.outputs ≡ sink.old.outputs) }
+{
+    let alloc = table.allocator();
+    let mut memory = BeginMemory::new(alloc);
+    memory.find(&mut table.spares, from, request, components, sink)?;
+    let fresh = Dialogue::fresh(alloc, identifier, limits.reject_ms, limits.idle_ms);
+    let Ok(()) = table.rows.insert(identifier, fresh, None) else {
+        memory.leave(&mut table.spares);
+        return Err(OutOfMemory);
+    };
+    let dialogue = table.rows.get_mut(identifier).unwrap();
+    dialogue.receive_begin_with(
+        &mut memory,
+        &mut table.spares,
+        from,
+        origin,
+        request,
+        components,
+        clock,
+        sink,
+    );
+    Ok(())
 }
 
 /// The identifier that is drawn after this one: no identifier is drawn twice.
