@@ -15,6 +15,7 @@ mod invocations;
 mod kept;
 mod outbox;
 mod played;
+mod refused_begin;
 mod room;
 mod runs;
 mod shapes;

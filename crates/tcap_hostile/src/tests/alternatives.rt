@@ -1,5 +1,4 @@
-//! Public calls for each of which there is another one that the engine makes: both are held against each other
-//! on the same input.
+//! Public calls for which the engine makes others: most are held against these on the same input.
 
 ghost use Rattle.std.specs.Prelude.{◌≡◌, None, IfSome};
 ghost use Rattle.ber_core.specs.ObjectIdentifier.{IsObjectIdentifier};
@@ -17,7 +16,7 @@ use ber_core::is_oid;
 use std::alloc::Global;
 use std::fmt::Debug;
 use tcap_component::{Component, write_component};
-use tcap_dialogue::{BeginVerdict, Dialogue, Sink, Spares, judge_begin};
+use tcap_dialogue::{BeginVerdict, Dialogue, judge_begin};
 use tcap_pdu::{
     AbortPart, DialoguePdu, Frame, PduFault, TransId, is_user_information, read_frame,
     write_dialogue, write_frame,
@@ -31,9 +30,9 @@ pub(super) fn are_alike<T: Debug, U: Debug>(alloc: Global, one: &T, other: &U) -
     Some(one.as_str() == other.as_str())
 }
 
-// ---- `Dialogue::accept`, beside `receive_begin_with`
+// ---- `Dialogue::accept`, which makes the calls that an engine makes, but in no table
 
-/// Adds what is told of the Begin that creates a dialogue, where both tell the same and leave the same dialogue.
+/// Adds what is told of the Begin that creates a dialogue.
 fn add_accepted(
     alloc: Global,
     heap: Heap<'_>,
@@ -44,21 +43,10 @@ fn add_accepted(
 ) -> Option<Told>
     requires { IfSome aarq (λ a. IsObjectIdentifier a.0.now) }
 {
-    let from = peer();
-    let accepted = Dialogue::accept(heap, 1, 1000, 0, &from, otid, aarq, components, 0);
-    let Ok((dialogue, outputs)) = accepted else {
+    let accepted = Dialogue::accept(heap, 1, 1000, 0, &peer(), otid, aarq, components, 0);
+    let Ok((_dialogue, outputs)) = accepted else {
         return Some(Told::NoMemory);
     };
-    let mut other = Dialogue::fresh(alloc, 1, 1000, 0);
-    let mut spares = Spares::new(alloc);
-    let mut sink = Sink::vector(alloc);
-    other
-        .receive_begin_with(&mut spares, &from, otid, aarq, components, 0, &mut sink)
-        .ok()?;
-    let heard = sink.into_vector();
-    if !are_alike(alloc, &dialogue, &other)? || !are_alike(alloc, &outputs, &heard)? {
-        return None;
-    }
     add_outputs(alloc, told, outputs.as_slice())?;
     Some(Told::Large)
 }

@@ -11,7 +11,7 @@ use tcap_invocation::Class;
 /// So many Invokes, and how many octets the parameter of each has behind its head of three octets: an Invoke has 8
 /// more, and one of 128 or more 9.
 #[derive(Clone, Copy)]
-struct Load(i8, u8);
+pub(super) struct Load(i8, u8);
 
 /// Queues this load in a dialogue, with identifiers from this one on.
 fn queue_from(engine: &mut Engine<Heap<'_>>, dialogue: u32, first: i8, load: Load) -> Option<()> {
@@ -32,7 +32,7 @@ fn queue_from(engine: &mut Engine<Heap<'_>>, dialogue: u32, first: i8, load: Loa
 }
 
 /// Creates a dialogue and queues this load in it: its identifier, nothing where a request is refused.
-fn queued(engine: &mut Engine<Heap<'_>>, load: Load) -> Option<u32> {
+pub(super) fn queued(engine: &mut Engine<Heap<'_>>, load: Load) -> Option<u32> {
     let dialogue = engine.new_dialogue().ok()?;
     queue_from(engine, dialogue, 0, load)?;
     Some(dialogue)
@@ -90,7 +90,7 @@ const FAULTY_FIRST: [u8; 32] = [
 ];
 
 /// Receives a message.
-fn hear(engine: &mut Engine<Heap<'_>>, message: &[u8]) -> Option<()> {
+pub(super) fn hear(engine: &mut Engine<Heap<'_>>, message: &[u8]) -> Option<()> {
     let from = Address::empty();
     engine.receive(&from, message).ok()?;
     Some(())
@@ -123,7 +123,7 @@ fn many_over(engine: &mut Engine<Heap<'_>>, count: u32, load: Load) -> Option<()
 }
 
 /// Two dialogues stand, the first of them with a load, and are over.
-fn two_over(engine: &mut Engine<Heap<'_>>, load: Load) -> Option<()> {
+pub(super) fn two_over(engine: &mut Engine<Heap<'_>>, load: Load) -> Option<()> {
     queued(engine, load)?;
     queued(engine, Load(0, 0))?;
     end(engine, 1)?;
@@ -239,7 +239,7 @@ fn growths_left(taken: Taken) -> u64 {
 }
 
 /// A small Invoke, of 13 octets.
-const SMALL: Load = Load(1, 2);
+pub(super) const SMALL: Load = Load(1, 2);
 
 const SCENES: [(Scene, Taken); 15] = [
     (Scene::After(SMALL, SMALL), Taken::Both),

@@ -43,7 +43,7 @@ pub(super) enum Subject<'h> {
     Feed(Feed<Heap<'h>>),
     /// `codec`: writers and texts.
     Codec,
-    /// `alternatives`: two calls on the same input.
+    /// `alternatives`: public calls that no engine makes.
     Alternatives,
 }
 

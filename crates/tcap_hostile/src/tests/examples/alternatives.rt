@@ -1,4 +1,4 @@
-//! Examples of calls for each of which there is another one that the engine makes.
+//! Examples of public calls that no engine makes.
 
 /// Of a Begin accepted, a component queued, a message written.
 pub const ALTERNATIVES: &str = "\
