@@ -6,7 +6,7 @@ use Rattle.tcap_dialogue.specs.KeptOctets.{most_in_place}
 use Rattle.tcap_dialogue.specs.declared.dialogue.kept_address.Names.{Names}
 use Rattle.tcap_model.specs.Words.Address.{Address}
 
--- Of an address that takes no memory no copy was made.
+-- An address of which no copy was made takes no memory.
 pub short-names : {A : Type 0} (names : Option (Names A)) (from : Address) (context : Option (List ℕ)) → AreNamesOf names from context → IfNone names (length from ≤ most_in_place)
 short-names None from context are = are.0
 short-names (Some names) from context are = tt

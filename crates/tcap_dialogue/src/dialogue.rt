@@ -43,7 +43,7 @@ pub struct Step<'m, A: Allocator = Global> {
 ///   time: `lapse`; or timer by timer `expire_first`; or one by one `due_count`, `first_due`, `lapse_one`
 ///   and `free_due`; the end of one that was idle too long: `abort_idle`, or one by one `open_count`,
 ///   `close_one`; or it is postponed by `touch`.
-/// - Into a sink: `ask_with`, `receive_begin_with` and `take_frame_with`, with the memory that other dialogues left
+/// - Into a sink: `ask_with`, `take_begin_with` and `take_frame_with`, with the memory that other dialogues left
 ///   (`Spares`); `take_faulty`. `BeginMemory` finds the memory that a Begin takes. `leave_memory` leaves its own memory
 ///   to others.
 /// - Getters: `identifier`, `state`, `peer`, `kept`, `check_invoke`, `message_length`, `next_timer`, `idle_at`.

@@ -44,9 +44,9 @@ impl<A: Allocator + Copy> BeginMemory<A> {
         }
     }
 
-    /// Finds all memory that a Begin takes, that for what it tells in a sink. The arguments are those of
+    /// Finds all memory that a Begin takes, and room in a sink for what it tells. The arguments are those of
     /// `Dialogue::accept`. The only error is that memory was refused: then nothing is held, and what other dialogues
-    /// left is theirs again (Q.774, Dialogue begin).
+    /// left is theirs again, unless it grew too large to be kept (Q.774, Dialogue begin).
     #[tactic(auto, using(crate::proofs::PortionNames::named_given))]
     #[inline(always)]
     pub fn find<'m, K: SinkKind>(
@@ -99,7 +99,8 @@ impl<A: Allocator + Copy> BeginMemory<A> {
         Ok(())
     }
 
-    /// Leaves what was found to other dialogues: the Begin is refused. It takes no memory (own).
+    /// Leaves the memory of the queue to other dialogues, where it is small, and gives the copies back: the Begin is
+    /// refused. It takes no memory (own).
     // It is rare, and kept out of what each Begin runs through.
     #[inline(never)]
     pub fn leave(&mut self, spares: &mut Spares<A>)

@@ -74,7 +74,7 @@ impl<A: Allocator + Copy> Dialogue<A> {
         let mut memory = BeginMemory::new(alloc);
         memory.find(&mut spares, from, aarq, components, &mut sink)?;
         let mut dialogue = Dialogue::fresh(alloc, identifier, reject_ms, idle_ms);
-        dialogue.receive_begin_with(
+        dialogue.take_begin_with(
             &mut memory,
             &mut spares,
             from,
@@ -91,9 +91,9 @@ impl<A: Allocator + Copy> Dialogue<A> {
     /// holds. The arguments are those of `accept`, and the memory is what `BeginMemory::find` found for this Begin,
     /// which then holds nothing (Q.774, Dialogue begin).
     // The dialogue stands where it is to stay: it is 192 octets, and made before it stands in a table it was moved
-    // there, some 64 instructions a Begin. So all memory is found first, and nothing is refused any more.
+    // there, some 60 instructions a Begin. So all memory is found first, and nothing is refused any more.
     #[inline(always)]
-    pub fn receive_begin_with<'m, K: SinkKind>(
+    pub fn take_begin_with<'m, K: SinkKind>(
         &mut self,
         memory: &mut BeginMemory<A>,
         spares: &mut Spares<A>,

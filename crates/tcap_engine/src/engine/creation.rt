@@ -175,7 +175,7 @@ impl<A: Allocator + Copy> Engine<A> {
 
 /// A Begin creates the dialogue of an identifier above all others: what is told, and the dialogue stands behind them.
 /// All memory is found first; where some is refused, what other dialogues left is theirs again.
-// The Begin is taken where the dialogue stands: made before, its 192 octets were moved there, some 64 instructions a
+// The Begin is taken where the dialogue stands: made before, its 192 octets were moved there, some 60 instructions a
 // Begin.
 #[inline(always)]
 fn begin_in<'m, A: Allocator + Copy, K: SinkKind>(
@@ -209,7 +209,7 @@ fn begin_in<'m, A: Allocator + Copy, K: SinkKind>(
         return Err(OutOfMemory);
     };
     let dialogue = table.rows.get_mut(identifier).unwrap();
-    dialogue.receive_begin_with(
+    dialogue.take_begin_with(
         &mut memory,
         &mut table.spares,
         from,

@@ -25,8 +25,8 @@ unwrap-dialogue-requires g c =
     let found = found-push d x c.table.inside.rows c.insert.new.self drawn c.in-Ok.ensures.ok in
     search (rules, found)
 
-pub receive_begin_with-requires-clause-queue : goal.receive_begin_with-requires-clause-queue
-receive_begin_with-requires-clause-queue g c =
+pub take_begin_with-requires-clause-queue : goal.take_begin_with-requires-clause-queue
+take_begin_with-requires-clause-queue g c =
     let d : ℕ = c.args.identifier in
     let x : Dialogue = c.fresh-fresh.result in
     let drawn : AreDrawn d (entries_of c.table.inside.rows) = rw (← c.table.view_is) at c.requires.drawn in
@@ -41,13 +41,13 @@ invariant_of-table-2 g c =
     let l = c.args.limits.now in
     let context = context_of_portion c.args.request in
     let info = info_of_portion c.args.request in
-    let new : Dialogue = c.receive_begin_with.new.self in
+    let new : Dialogue = c.take_begin_with.new.self in
     let drawn : AreDrawn d (entries_of c.table.inside.rows) = rw (← c.table.view_is) at c.requires.drawn in
     let found = found-push d x c.table.inside.rows c.insert.new.self drawn c.in-Ok.ensures.ok in
     let is : c.unwrap-dialogue.result.now ≡ x = search (rules, found) in
     let untimed : timer_of x ≡ None = ap timer_of c.fresh-fresh.ensures in
     let timed : AreTimed c.insert.new.self = rw c.in-Ok.ensures.ok (timed-push d x None c.table.inside.rows (sym untimed) c.table.invariant) in
-    let same = begun-is c.args.clock c.args.clock d l.reject_ms l.idle_ms c.args.from.now c.args.origin.now context info c.args.components.now c.unwrap-dialogue.result.now new _ refl (is ∙ c.fresh-fresh.ensures) c.receive_begin_with.ensures.told.1 in
+    let same = begun-is c.args.clock c.args.clock d l.reject_ms l.idle_ms c.args.from.now c.args.origin.now context info c.args.components.now c.unwrap-dialogue.result.now new _ refl (is ∙ c.fresh-fresh.ensures) c.take_begin_with.ensures.told.1 in
     let still : timer_of new ≡ timer_of x = ap timer_of same ∙ untimed_born (at_clock c.args.clock) d l.reject_ms l.idle_ms c.args.from.now c.args.origin.now context info c.args.components.now ∙ sym untimed in
     rw (c.get_mut.follows.holds new).rows (timed-alike d x new c.insert.new.self found still timed)
 
@@ -58,15 +58,15 @@ returns-clause-told g c =
     let l = c.args.limits.now in
     let context = context_of_portion c.args.request in
     let info = info_of_portion c.args.request in
-    let new : Dialogue = c.receive_begin_with.new.self in
+    let new : Dialogue = c.take_begin_with.new.self in
     let drawn : AreDrawn d (entries_of c.table.inside.rows) = rw (← c.table.view_is) at c.requires.drawn in
     let found = found-push d x c.table.inside.rows c.insert.new.self drawn c.in-Ok.ensures.ok in
     let is : c.unwrap-dialogue.result.now ≡ x = search (rules, found) in
     let fresh = is ∙ c.fresh-fresh.ensures in
-    let same = begun-is c.args.clock c.args.clock d l.reject_ms l.idle_ms c.args.from.now c.args.origin.now context info c.args.components.now c.unwrap-dialogue.result.now new _ refl fresh c.receive_begin_with.ensures.told.1 in
-    let told : StepsTo c.args.sink.now.outputs c.receive_begin_with.new.sink.outputs false new (outcome (begun_from c.args.clock c.unwrap-dialogue.result.now c.args.from.now c.args.origin.now context info c.args.components.now)) = rw c.find.ensures.still at c.receive_begin_with.ensures.told in (
+    let same = begun-is c.args.clock c.args.clock d l.reject_ms l.idle_ms c.args.from.now c.args.origin.now context info c.args.components.now c.unwrap-dialogue.result.now new _ refl fresh c.take_begin_with.ensures.told.1 in
+    let told : StepsTo c.args.sink.now.outputs c.take_begin_with.new.sink.outputs false new (outcome (begun_from c.args.clock c.unwrap-dialogue.result.now c.args.from.now c.args.origin.now context info c.args.components.now)) = rw c.find.ensures.still at c.take_begin_with.ensures.told in (
       told.0,
-      ap (told_outcome (told_since c.args.sink.now.outputs c.receive_begin_with.new.sink.outputs) false) (sym same) ∙ told.1
+      ap (told_outcome (told_since c.args.sink.now.outputs c.take_begin_with.new.sink.outputs) false) (sym same) ∙ told.1
           ∙ ap (λ (y : Dialogue). outcome (begun_from c.args.clock y c.args.from.now c.args.origin.now context info c.args.components.now)) fresh,
     )
 
@@ -78,9 +78,9 @@ returns-clause-table g c =
     let l = c.args.limits.now in
     let context = context_of_portion c.args.request in
     let info = info_of_portion c.args.request in
-    let new : Dialogue = c.receive_begin_with.new.self in
+    let new : Dialogue = c.take_begin_with.new.self in
     let drawn : AreDrawn d ps = rw (← c.table.view_is) at c.requires.drawn in
     let found = found-push d x c.table.inside.rows c.insert.new.self drawn c.in-Ok.ensures.ok in
     let is : c.unwrap-dialogue.result.now ≡ x = search (rules, found) in
-    let same = begun-is c.args.clock c.args.clock d l.reject_ms l.idle_ms c.args.from.now c.args.origin.now context info c.args.components.now c.unwrap-dialogue.result.now new _ refl (is ∙ c.fresh-fresh.ensures) c.receive_begin_with.ensures.told.1 in
+    let same = begun-is c.args.clock c.args.clock d l.reject_ms l.idle_ms c.args.from.now c.args.origin.now context info c.args.components.now c.unwrap-dialogue.result.now new _ refl (is ∙ c.fresh-fresh.ensures) c.take_begin_with.ensures.told.1 in
     rw (← c.table.view_is) ((c.get_mut.follows.holds new).entries ∙ ap (λ (es : List TableEntry). set_value (nat_eq d) es new) (entries-push d x c.table.inside.rows c.insert.new.self c.in-Ok.ensures.ok) ∙ set-push d x new ps drawn ∙ ap (λ (y : Dialogue). ps ++ (d, y) ∷ []) same)

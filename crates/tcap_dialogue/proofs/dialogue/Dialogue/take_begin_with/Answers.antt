@@ -1,5 +1,5 @@
 use Rattle.tcap_dialogue.proofs.BeginMemoryLemmas.{short-names}
-use Rattle.tcap_dialogue.proofs.dialogue.Dialogue.receive_begin_with.Goals as goal
+use Rattle.tcap_dialogue.proofs.dialogue.Dialogue.take_begin_with.Goals as goal
 
 pub keep_found-requires : goal.keep_found-requires
 keep_found-requires g c = short-names c.args.memory.now.names c.args.from.now _ c.requires.found.are_names
