@@ -228,11 +228,11 @@ pub(crate) fn split_component<'a>(
 
 /// Reads the first component, where it is a Return Result Last whose length is one octet below 128: its identifier, its
 /// operation code with the parameter, and what follows it, as `read_component` reads them. Nothing where it is another,
-/// or where it can't be read: `read_component` says what stands there.
-// Most components are short results and Invokes. The tag then says the form, and contents that are read whole are a list
-// of elements: nothing is left to be judged. A caller asks for these two first, and takes the others by
+/// or where it can't be read: `read_component` says what stands there. Q.773, component portion.
+// Most components are short results and Invokes. The tag then says the form, and contents that are read whole are a
+// list of elements: nothing is left to be judged. A caller asks for these two first, and takes the others by
 // `read_component`, a call: where that was inlined, places for all that it answers were cleared for each component, 22
-// to 61 instructions a step.
+// to 62 instructions a step.
 #[inline(always)]
 pub fn read_short_result<'a>(bytes: &'a [u8]) -> Option<(i8, Option<Body<'a>>, &'a [u8])>
     // Exactly where the tag and such a length stand first, the content is whole, and a component is read.
@@ -252,7 +252,7 @@ pub fn read_short_result<'a>(bytes: &'a [u8]) -> Option<(i8, Option<Body<'a>>, &
 }
 
 /// `read_short_result`, of an Invoke: its identifier, the one it is linked to, its operation code with the parameter,
-/// and what follows it.
+/// and what follows it. Q.773, component portion.
 #[inline(always)]
 pub fn read_short_invoke<'a>(bytes: &'a [u8]) -> Option<(i8, Option<i8>, Body<'a>, &'a [u8])>
     // Exactly where the tag and such a length stand first, the content is whole, and a component is read.
