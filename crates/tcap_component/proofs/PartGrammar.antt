@@ -1,5 +1,5 @@
 -- The parts of a component: what is read stands there, and what stands there is read.
-use Rattle.std.proofs.Common.{◌≡◌, ℕ, ℤ, ltb, eqb, List, [], ◌∷◌, length, Option, Some, None, refl, sym, ap, subst, ◌∙◌, arith, eqb-true}
+use Rattle.std.proofs.Common.{◌≡◌, ◌<◌, ℕ, ℤ, ltb, eqb, List, [], ◌∷◌, length, Option, Some, None, refl, sym, ap, subst, ◌∙◌, arith, eqb-true}
 use Rattle.std.specs.Option.{option_map}
 use Rattle.std.proofs.lemmas.Bool.{lt-ltb, ltb-true}
 use Rattle.ber_core.specs.Options.{◌>>=◌}
@@ -7,11 +7,13 @@ use Rattle.ber_core.specs.Integer.{signed_octet, octet_of, integer_at, integer_o
 use Rattle.ber_core.specs.ObjectIdentifier.{is_object_identifier}
 use Rattle.ber_core.specs.Sequence.{Field, SpellsSequence}
 use Rattle.ber_core.specs.Sequence.Field.{must, may, any}
+use Rattle.ber_core.specs.ElementReading.{element_at}
+use Rattle.ber_core.specs.HeadReading.{head_at, tag_at}
 use Rattle.ber_core.specs.SequenceReading.{tagged, content_at, first_whole, ending}
 use Rattle.ber_core.proofs.CallerLemmas.{Apart, some, some_is, bind_some, test_some, ending-is, ending-again, content_at-is, must_takes, must_again, may_takes, may_again, any_takes, any_again, end_takes, other_first, integer_takes, integer_again, integer-octets, integer_spelled, integer-fits, octet_of-signed_octet, signed_octet-octet_of, octet_of-below, signed_octet-fits, object_identifier_takes, object_identifier_again}
 use Rattle.tcap_component.specs.Component.{CodeParts, BodyParts, identifier, code_field, rejected_field, body_fields, IsIdentifier, IsIdentifierIfAny, IsCode}
 use Rattle.tcap_component.specs.Component.CodeParts.{local, global}
-use Rattle.tcap_component.specs.ComponentReading.{with_rest, identifier_of, identifier_at, some_identifier, linked_from, linked_at, global_from, code_from, code_at, coded, body_at, null_from, rejected_from, rejected_at}
+use Rattle.tcap_component.specs.ComponentReading.{with_rest, identifier_of, identifier_at, some_identifier, linked_from, linked_at, global_from, code_from, code_at, coded, body_at, null_from, rejected_from, rejected_at, result_at}
 
 -- ---- identifiers
 
@@ -164,3 +166,8 @@ rejected_again (Some z) fs bytes h s =
     let m = must_again 0x02 (identifier z) fs bytes s in
     let t = content_at-is 0x02 bytes (identifier z, m.0) m.1 in
     (m.0, rw (t.0, t.1) (rw (identifier_again z h) refl), m.2)
+
+-- A 02 with one octet and nothing after it is a result without a body.
+pub bare_result : (bytes rest : List ℕ) (octet : ℕ) → tagged 0x02 bytes ≡ (Some (octet ∷ []), rest) → length rest ≡ 0 → octet < 256 → result_at bytes ≡ Some (signed_octet octet, None)
+unfolding result_at identifier_at identifier_of tagged element_at head_at tag_at
+bare_result bytes rest octet is none below = rw (is, lt-ltb octet 256 below, nothing rest none) refl

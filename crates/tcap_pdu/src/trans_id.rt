@@ -129,6 +129,18 @@ impl TransId {
         &self.octets[..usize::from(self.len)]
     }
 
+    /// The octets where there are four, as of most identifiers (our own).
+    #[inline(always)]
+    pub(crate) fn four_octets(&self) -> Option<[u8; MAX_OCTETS]>
+        ensures { IfSome result (λ octets. octets ≡ self.now) }
+    {
+        if usize::from(self.len) == MAX_OCTETS {
+            Some(self.octets)
+        } else {
+            None
+        }
+    }
+
     /// A second identifier of the same octets; it takes no memory (our own).
     pub fn copied(&self) -> TransId
         ensures { result ≡ self.now }

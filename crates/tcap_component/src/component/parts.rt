@@ -148,8 +148,23 @@ pub(crate) fn read_invoke_fields<'a>(bytes: &'a [u8]) -> Option<(i8, Option<i8>,
 }
 
 /// A result: 02 identifier, [30 { code, [parameter] }].
-#[tactic(auto, unfolding(crate::specs::ComponentReading::result_at))]
+// One without a body is three octets: it is read in place, and the others by a call.
+#[tactic(auto, unfolding(crate::specs::ComponentReading::result_at, crate::specs::ComponentReading::identifier_at, crate::specs::ComponentReading::identifier_of))]
+#[inline(always)]
 pub(crate) fn read_result<'a>(bytes: &'a [u8]) -> Option<(i8, Option<Body<'a>>)>
+    ensures value { option_map (λ r. (r.0, option_map body_parts r.1)) result ≡ result_at bytes.now }
+    ensures place { IfSome result (λ r. BodyOnWay (0x30 ∷ []) r.1 bytes.entry) }
+{
+    if let Some((octet, [])) = take_octet(bytes) {
+        return Some((octet.cast_signed(), None));
+    }
+    read_any_result(bytes)
+}
+
+/// `read_result`, of any result.
+#[tactic(auto, unfolding(crate::specs::ComponentReading::result_at))]
+#[inline(never)]
+fn read_any_result<'a>(bytes: &'a [u8]) -> Option<(i8, Option<Body<'a>>)>
     ensures value { option_map (λ r. (r.0, option_map body_parts r.1)) result ≡ result_at bytes.now }
     ensures place { IfSome result (λ r. BodyOnWay (0x30 ∷ []) r.1 bytes.entry) }
 {

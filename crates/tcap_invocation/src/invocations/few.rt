@@ -3,7 +3,7 @@
 
 // Hints to inline: each step of an engine runs through it; docs/PERF.md says what the whole of it inlined gains.
 
-ghost use Rattle.std.specs.Prelude.{◌≡◌, ◌↔◌, ◌≤◌, ◌≢◌, ◌++◌, ◌∷◌, [], length, option_copied, IsTrue, IfOk, OnOk, OnErr, Some, filter};
+ghost use Rattle.std.specs.Prelude.{◌≡◌, ◌↔◌, ◌≤◌, ◌≢◌, ◌++◌, ◌∷◌, [], length, option_copied, IsTrue, IfOk, OnOk, OnErr, Some, filter, ◌<◌, vec_len, vec_capacity};
 ghost use Rattle.std.specs.List.{position_from};
 ghost use Rattle.std.specs.Ordering.{int_eq};
 ghost use Rattle.tcap_invocation.specs.Closing.{ended_at, first_ended_at};
@@ -42,6 +42,20 @@ pub(super) fn get<'a>(rows: &'a [Row], id: &i8) -> Option<&'a Invocation>
     None
 }
 
+/// Makes room for one more.
+// Rare, and kept out of what takes one in: so that is small enough to be inlined, 30 instructions an Invoke.
+#[inline(never)]
+fn grow<A: Allocator + Copy>(rows: &mut Vec<Row, A>) -> Result<(), AllocError>
+    ensures items { rows.new.items ≡ rows.old.items }
+    ensures ok { OnOk result (vec_len rows.new < vec_capacity rows.new) }
+{
+    if rows.capacity() == 0 {
+        rows.reserve_exact(FIRST_ROOM)
+    } else {
+        rows.reserve(1)
+    }
+}
+
 /// Takes an invocation in, behind the others.
 #[inline(always)]
 pub(super) fn push<A: Allocator + Copy>(
@@ -52,10 +66,10 @@ pub(super) fn push<A: Allocator + Copy>(
     ensures ok { OnOk result (rows.new.items ≡ rows.old.items ++ (id, entry) ∷ []) }
     ensures err { OnErr result (rows.new.items ≡ rows.old.items) }
 {
-    if rows.capacity() == 0 {
-        rows.reserve_exact(FIRST_ROOM)?;
+    if rows.len() == rows.capacity() {
+        grow(rows)?;
     }
-    rows.push((id, entry))?;
+    rows.push_reserved((id, entry));
     Ok(())
 }
 

@@ -26,6 +26,7 @@ impl<'a> Frame<'a> {
     ghost use Rattle.tcap_pdu.specs.FrameViews.{message};
 
     /// The contents of 6B, the dialogue portion, `None` where there is none (Q.773, Dialogue portion).
+    // One arm for each kind of message, for the reason that put.rt gives.
     #[inline(always)]
     pub fn dialogue(&self) -> Option<&'a [u8]>
         ensures exact { option_copied result ≡ dialogue_of (message self.now) }
@@ -33,10 +34,10 @@ impl<'a> Frame<'a> {
         ensures own { result ≡ dialogue_slice self.now }
     {
         match self {
-            Frame::Uni { dialogue, .. }
-            | Frame::Begin { dialogue, .. }
-            | Frame::End { dialogue, .. }
-            | Frame::Continue { dialogue, .. } => *dialogue,
+            Frame::Uni { dialogue, .. } => *dialogue,
+            Frame::Begin { dialogue, .. } => *dialogue,
+            Frame::End { dialogue, .. } => *dialogue,
+            Frame::Continue { dialogue, .. } => *dialogue,
             Frame::Abort { reason, .. } => match reason {
                 AbortPart::Nothing | AbortPart::Cause(_) => None,
                 AbortPart::Dialogue(content) => Some(*content),
@@ -53,10 +54,10 @@ impl<'a> Frame<'a> {
         ensures own { IfSome (components_slice self.now) (λ own. result ≡ own) }
     {
         match self {
-            Frame::Uni { components, .. }
-            | Frame::Begin { components, .. }
-            | Frame::End { components, .. }
-            | Frame::Continue { components, .. } => *components,
+            Frame::Uni { components, .. } => *components,
+            Frame::Begin { components, .. } => *components,
+            Frame::End { components, .. } => *components,
+            Frame::Continue { components, .. } => *components,
             Frame::Abort { .. } => &[],
         }
     }

@@ -3,7 +3,7 @@
 ghost use Rattle.std.specs.Prelude.{◌≡◌, ◌+◌, ◌≤◌, ◌++◌, [], ◌∷◌, length, option_copied, vec_len, vec_capacity};
 ghost use Rattle.ber_core.specs.Length.{length_limit};
 ghost use Rattle.ber_core.specs.Sequence.Field.{may, filled};
-ghost use Rattle.ber_core.specs.Written.{written_field, written_fields, written_head};
+ghost use Rattle.ber_core.specs.Written.{written, written_field, written_fields, written_head};
 ghost use Rattle.tcap_pdu.specs.FrameParts.{cause_fields, closing_fields, identifier_fields};
 ghost use Rattle.tcap_pdu.specs.FrameSpelling.{message_tag};
 ghost use Rattle.tcap_pdu.specs.FrameViews.{message, reason_of};
@@ -11,6 +11,7 @@ ghost use Rattle.tcap_pdu.specs.FrameWritten.{message_limit};
 
 use super::{AbortPart, Frame};
 use crate::tag;
+use crate::trans_id::TransId;
 use ber_core::{put_element, put_few, put_head, put_octet};
 use std::alloc::Allocator;
 
@@ -28,7 +29,34 @@ fn tag_of(frame: &Frame<'_>) -> u8
     }
 }
 
+/// Appends a transaction identifier of fewer octets than most have.
+#[inline(never)]
+fn put_any_id<A: Allocator + Copy>(out: &mut Vec<u8, A>, tag: u8, id: &TransId)
+    requires { vec_len out.old + length (written (tag ∷ []) id.now) ≤ vec_capacity out.old }
+    ensures items { out.new.items ≡ out.old.items ++ written (tag ∷ []) id.now }
+    ensures capacity { vec_capacity out.old ≤ vec_capacity out.new }
+{
+    put_few(out, tag, id.octets());
+}
+
+/// Appends a transaction identifier.
+// Nearly all have four octets. One whose octets are walked through is kept in memory, and so is the message that it
+// lies in, with all that is known of it: 40 to 70 instructions a message by an outbox.
+#[inline(always)]
+fn put_id<A: Allocator + Copy>(out: &mut Vec<u8, A>, tag: u8, id: &TransId)
+    requires { vec_len out.old + length (written (tag ∷ []) id.now) ≤ vec_capacity out.old }
+    ensures items { out.new.items ≡ out.old.items ++ written (tag ∷ []) id.now }
+    ensures capacity { vec_capacity out.old ≤ vec_capacity out.new }
+{
+    match id.four_octets() {
+        Some(octets) => put_few(out, tag, &octets),
+        None => put_any_id(out, tag, &id.copied()),
+    }
+}
+
 /// Appends the transaction identifiers of the message.
+// One arm for each kind of message, here and below: where one pattern names a part of several, what it binds is an
+// address, and the message is kept in memory.
 #[inline(always)]
 fn put_identifiers<A: Allocator + Copy>(out: &mut Vec<u8, A>, frame: &Frame<'_>)
     requires { vec_len out.old + length (written_fields (identifier_fields (message frame.now)))
@@ -38,14 +66,13 @@ fn put_identifiers<A: Allocator + Copy>(out: &mut Vec<u8, A>, frame: &Frame<'_>)
 {
     match frame {
         Frame::Uni { .. } => {}
-        Frame::Begin { otid, .. } => put_few(out, tag::ORIGIN, otid.octets()),
-        Frame::End { dtid, .. } | Frame::Abort { dtid, .. } => {
-            put_few(out, tag::DESTINATION, dtid.octets())
-        }
+        Frame::Begin { otid, .. } => put_id(out, tag::ORIGIN, otid),
+        Frame::End { dtid, .. } => put_id(out, tag::DESTINATION, dtid),
         Frame::Continue { otid, dtid, .. } => {
-            put_few(out, tag::ORIGIN, otid.octets());
-            put_few(out, tag::DESTINATION, dtid.octets());
+            put_id(out, tag::ORIGIN, otid);
+            put_id(out, tag::DESTINATION, dtid);
         }
+        Frame::Abort { dtid, .. } => put_id(out, tag::DESTINATION, dtid),
     }
 }
 
@@ -120,9 +147,9 @@ pub(super) fn put_closing<A: Allocator + Copy>(out: &mut Vec<u8, A>, frame: &Fra
 {
     match frame {
         Frame::Uni { components, .. } => put_element(out, tag::COMPONENT_PORTION, components),
-        Frame::Begin { components, .. }
-        | Frame::End { components, .. }
-        | Frame::Continue { components, .. } => put_components(out, components),
+        Frame::Begin { components, .. } => put_components(out, components),
+        Frame::End { components, .. } => put_components(out, components),
+        Frame::Continue { components, .. } => put_components(out, components),
         Frame::Abort { reason, .. } => put_cause(out, reason),
     }
 }
