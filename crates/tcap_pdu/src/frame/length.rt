@@ -77,28 +77,18 @@ fn content_len(frame: &Frame<'_>, dialogue: Option<usize>) -> Option<usize>
     ensures none { IfNone result (message_limit < content_length dialogue (message frame.now)) }
     ensures ids { HasIds (message frame.now) }
 {
-    match frame {
-        Frame::Uni { components, .. } => Some(
-            may_len(dialogue)? + may_len(Some(components.len()))?,
-        ),
-        Frame::Begin {
-            otid,
-            components,
-            ..
-        } => Some(id_len(otid) + portions_len(dialogue, components)?),
-        Frame::End {
-            dtid,
-            components,
-            ..
-        } => Some(id_len(dtid) + portions_len(dialogue, components)?),
-        Frame::Continue {
-            otid,
-            dtid,
-            components,
-            ..
-        } => Some(id_len(otid) + id_len(dtid) + portions_len(dialogue, components)?),
-        Frame::Abort { dtid, reason } => Some(id_len(dtid) + reason_len(reason, dialogue)?),
-    }
+    let ids = match frame {
+        Frame::Uni { components, .. } => {
+            return Some(may_len(dialogue)? + may_len(Some(components.len()))?);
+        }
+        Frame::Begin { otid, .. } => id_len(otid),
+        Frame::End { dtid, .. } => id_len(dtid),
+        Frame::Continue { otid, dtid, .. } => id_len(otid) + id_len(dtid),
+        Frame::Abort { dtid, reason } => {
+            return Some(id_len(dtid) + reason_len(reason, dialogue)?);
+        }
+    };
+    Some(ids + portions_len(dialogue, frame.components())?)
 }
 
 /// The bytes of the contents, with 6B contents of this many bytes in place of its own; `None` where

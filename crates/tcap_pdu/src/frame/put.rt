@@ -29,7 +29,7 @@ fn tag_of(frame: &Frame<'_>) -> u8
     }
 }
 
-/// Appends a transaction identifier of fewer octets than most have.
+/// Appends a transaction identifier, by a call.
 #[inline(never)]
 fn put_any_id<A: Allocator + Copy>(out: &mut Vec<u8, A>, tag: u8, id: &TransId)
     requires { vec_len out.old + length (written (tag ∷ []) id.now) ≤ vec_capacity out.old }
@@ -72,7 +72,7 @@ fn put_identifiers<A: Allocator + Copy>(out: &mut Vec<u8, A>, frame: &Frame<'_>)
             put_id(out, tag::ORIGIN, otid);
             put_id(out, tag::DESTINATION, dtid);
         }
-        Frame::Abort { dtid, .. } => put_id(out, tag::DESTINATION, dtid),
+        Frame::Abort { dtid, .. } => put_any_id(out, tag::DESTINATION, dtid),
     }
 }
 

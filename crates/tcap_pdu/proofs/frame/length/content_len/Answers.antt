@@ -9,7 +9,7 @@ returns-in_err-reason_len-in-Abort-clause-none c =
     let above : message_limit < reason_length c.args.dialogue (reason_of c.in-Abort.reason) = c.in_err-reason_len-in-Abort.ensures.none in
     search rules
 
-pub returns-in_ok-reason_len-in-Abort-clause-some : goal.returns-in_ok-reason_len-in-Abort-clause-some
-returns-in_ok-reason_len-in-Abort-clause-some c =
+pub returns-in-Abort-clause-some : goal.returns-in-Abort-clause-some
+returns-in-Abort-clause-some c =
     let length : c.in_ok-reason_len-in-Abort.field-0 ≡ reason_length c.args.dialogue (reason_of c.in-Abort.reason) = c.in_ok-reason_len-in-Abort.ensures.some.0 in
     search rules
