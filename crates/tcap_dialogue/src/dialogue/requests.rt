@@ -9,6 +9,7 @@
 pub(crate) mod aborting;
 pub(crate) mod closing;
 pub(crate) mod continuing;
+pub(crate) mod frequent;
 pub(crate) mod invoke;
 pub(crate) mod opening;
 pub(crate) mod results;
@@ -141,18 +142,16 @@ impl<A: Allocator + Copy> Dialogue<A> {
         requires limited { reject_ms ≤ moment_limit }
         ensures { self.new ≡ self.old }
     {
-        if !queues_component(request) {
-            return;
-        }
-        spares.lend_queue(&mut self.queue);
         if matches!(request, Request::Invoke(_)) {
-            spares.lend_list(&mut self.invocations, reject_ms);
+            self.borrow_for_invoke(spares, reject_ms);
+        } else if queues_component(request) {
+            self.borrow_queue(spares);
         }
     }
 
     /// Gives back what was taken for a request that is refused: an empty queue, and of an Invoke an empty list.
     #[inline(never)]
-    fn give_back(&mut self, spares: &mut Spares<A>, reject_ms: u64, is_invoke: bool)
+    pub(super) fn give_back(&mut self, spares: &mut Spares<A>, reject_ms: u64, is_invoke: bool)
         requires wait { self.old.invocations.reject_ms ≡ reject_ms }
         requires limited { reject_ms ≤ moment_limit }
         ensures { self.new ≡ self.old }
@@ -182,16 +181,16 @@ impl<A: Allocator + Copy> Dialogue<A> {
         ensures kept { self.new.standing.identifier ≡ self.old.standing.identifier }
     {
         match *request {
-            Request::Invoke(invoke) => of_number(self.queue_invoke(number, &invoke)),
-            Request::ResultLast(result) => of_queued(self.queue_result_last(&result)),
+            Request::Invoke(invoke) => of_number(self.queue_invoke_apart(number, &invoke)),
+            Request::ResultLast(result) => of_queued(self.queue_result_last_apart(&result)),
             Request::ResultMore(result) => of_queued(self.queue_result_more(&result)),
             Request::ErrorBack(error) => of_queued(self.queue_error(&error)),
             Request::Reject(reject) => of_queued(self.queue_reject(&reject)),
             Request::Cancel(cancel) => of_cancel(self.give_up_invocation(&cancel)),
             Request::Uni(uni) => of_step(self.send_uni(&uni, sink)),
-            Request::Begin(begin) => of_step(self.send_begin(&begin, clock, sink)),
-            Request::Continue(go_on) => of_step(self.send_continue(&go_on, clock, sink)),
-            Request::End(end) => of_step(self.send_end(&end, sink)),
+            Request::Begin(begin) => of_step(self.send_begin_apart(&begin, clock, sink)),
+            Request::Continue(go_on) => of_step(self.send_continue_apart(&go_on, clock, sink)),
+            Request::End(end) => of_step(self.send_end_apart(&end, sink)),
             Request::Abort(abort) => of_step(self.send_abort(&abort, sink)),
         }
     }

@@ -212,7 +212,7 @@ impl<A: Allocator + Copy> Dialogue<A> {
     }
 
     /// Judges an end, and writes its message, if it sends one; the dialogue is over.
-    #[inline(never)]
+    #[inline(always)]
     pub(super) fn send_end<'m, K: SinkKind>(
         &mut self,
         request: &EndRequest<'_>,

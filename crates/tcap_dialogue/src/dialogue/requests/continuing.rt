@@ -163,7 +163,7 @@ impl<A: Allocator + Copy> Dialogue<A> {
     }
 
     /// Judges a Continue, and writes it at this moment; the dialogue is Active, and not over.
-    #[inline(never)]
+    #[inline(always)]
     pub(super) fn send_continue<'m, K: SinkKind>(
         &mut self,
         request: &ContinueRequest<'_>,

@@ -153,8 +153,7 @@ impl<A: Allocator + Copy> Dialogue<A> {
     }
 
     /// Queues an Invoke and takes its invocation in, Queued with this number.
-    // `ask` is copied to each named call of an engine; what it calls stands once.
-    #[inline(never)]
+    #[inline(always)]
     pub(super) fn queue_invoke(
         &mut self,
         number: u64,

@@ -201,7 +201,7 @@ impl<A: Allocator + Copy> Dialogue<A> {
 
     /// Judges a Begin, and writes it at this moment; the dialogue keeps its destination and its context, and is Sent,
     /// and not over.
-    #[inline(never)]
+    #[inline(always)]
     pub(super) fn send_begin<'m, K: SinkKind>(
         &mut self,
         request: &BeginRequest<'_>,

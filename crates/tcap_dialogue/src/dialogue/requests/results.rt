@@ -73,8 +73,7 @@ impl<A: Allocator + Copy> Dialogue<A> {
     }
 
     /// Queues a Return Result, Last.
-    // `ask` is copied to each named call of an engine; what it calls stands once, here and below.
-    #[inline(never)]
+    #[inline(always)]
     pub(super) fn queue_result_last(&mut self, request: &ResultRequest<'_>) -> Result<(), Fault>
         ensures answer { Answers queued_done result
             (requested 0 0 self.old (Request.component (last_view request.now))) self.old self.new }
@@ -87,6 +86,7 @@ impl<A: Allocator + Copy> Dialogue<A> {
     }
 
     /// Queues a Return Result, Not Last.
+    // `ask` is copied to each call that takes any request; what it calls stands once, here and below.
     #[inline(never)]
     pub(super) fn queue_result_more(&mut self, request: &ResultRequest<'_>) -> Result<(), Fault>
         ensures answer { Answers queued_done result

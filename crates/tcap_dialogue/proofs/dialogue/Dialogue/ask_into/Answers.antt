@@ -4,12 +4,12 @@ use Rattle.tcap_dialogue.proofs.dialogue.Dialogue.ask_into.Goals as goal
 pub returns-in-Invoke-clause-answer : goal.returns-in-Invoke-clause-answer
 unfolding table_move
 returns-in-Invoke-clause-answer g c =
-    rw (c.in-Invoke.is) (c.of_number.ensures _ _ _ _ c.queue_invoke.ensures.answer)
+    rw (c.in-Invoke.is) (c.of_number.ensures _ _ _ _ c.queue_invoke_apart.ensures.answer)
 
 pub returns-in-ResultLast-clause-answer : goal.returns-in-ResultLast-clause-answer
 unfolding table_move
 returns-in-ResultLast-clause-answer g c =
-    rw (c.in-ResultLast.is) (c.of_queued.ensures _ _ _ _ c.queue_result_last.ensures.answer)
+    rw (c.in-ResultLast.is) (c.of_queued.ensures _ _ _ _ c.queue_result_last_apart.ensures.answer)
 
 pub returns-in-ResultMore-clause-answer : goal.returns-in-ResultMore-clause-answer
 unfolding table_move
@@ -39,17 +39,17 @@ returns-in-Uni-clause-answer g c =
 pub returns-in-Begin-clause-answer : goal.returns-in-Begin-clause-answer
 unfolding table_move
 returns-in-Begin-clause-answer g c =
-    rw (c.in-Begin.is) (c.of_step-in-Begin.ensures _ _ _ _ _ c.send_begin.ensures.step)
+    rw (c.in-Begin.is) (c.of_step-in-Begin.ensures _ _ _ _ _ c.send_begin_apart.ensures.step)
 
 pub returns-in-Continue-clause-answer : goal.returns-in-Continue-clause-answer
 unfolding table_move
 returns-in-Continue-clause-answer g c =
-    rw (c.in-Continue.is) (c.of_step-in-Continue.ensures _ _ _ _ _ c.send_continue.ensures.step)
+    rw (c.in-Continue.is) (c.of_step-in-Continue.ensures _ _ _ _ _ c.send_continue_apart.ensures.step)
 
 pub returns-in-End-clause-answer : goal.returns-in-End-clause-answer
 unfolding table_move
 returns-in-End-clause-answer g c =
-    rw (c.in-End.is) (c.of_step-in-End.ensures _ _ _ _ _ c.send_end.ensures.step)
+    rw (c.in-End.is) (c.of_step-in-End.ensures _ _ _ _ _ c.send_end_apart.ensures.step)
 
 pub returns-in-Abort-clause-answer : goal.returns-in-Abort-clause-answer
 unfolding table_move
@@ -57,10 +57,10 @@ returns-in-Abort-clause-answer g c =
     rw (c.in-Abort.is) (c.of_step-in-Abort.ensures _ _ _ _ _ c.send_abort.ensures.step)
 
 pub returns-in-Invoke-clause-kept : goal.returns-in-Invoke-clause-kept
-returns-in-Invoke-clause-kept g c = c.queue_invoke.ensures.kept
+returns-in-Invoke-clause-kept g c = c.queue_invoke_apart.ensures.kept
 
 pub returns-in-ResultLast-clause-kept : goal.returns-in-ResultLast-clause-kept
-returns-in-ResultLast-clause-kept g c = c.queue_result_last.ensures.kept
+returns-in-ResultLast-clause-kept g c = c.queue_result_last_apart.ensures.kept
 
 pub returns-in-ResultMore-clause-kept : goal.returns-in-ResultMore-clause-kept
 returns-in-ResultMore-clause-kept g c = c.queue_result_more.ensures.kept
@@ -78,13 +78,13 @@ pub returns-in-Uni-clause-kept : goal.returns-in-Uni-clause-kept
 returns-in-Uni-clause-kept g c = c.send_uni.ensures.kept
 
 pub returns-in-Begin-clause-kept : goal.returns-in-Begin-clause-kept
-returns-in-Begin-clause-kept g c = c.send_begin.ensures.kept
+returns-in-Begin-clause-kept g c = c.send_begin_apart.ensures.kept
 
 pub returns-in-Continue-clause-kept : goal.returns-in-Continue-clause-kept
-returns-in-Continue-clause-kept g c = c.send_continue.ensures.kept
+returns-in-Continue-clause-kept g c = c.send_continue_apart.ensures.kept
 
 pub returns-in-End-clause-kept : goal.returns-in-End-clause-kept
-returns-in-End-clause-kept g c = c.send_end.ensures.kept
+returns-in-End-clause-kept g c = c.send_end_apart.ensures.kept
 
 pub returns-in-Abort-clause-kept : goal.returns-in-Abort-clause-kept
 returns-in-Abort-clause-kept g c = c.send_abort.ensures.kept
