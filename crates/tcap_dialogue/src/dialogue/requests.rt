@@ -2,7 +2,8 @@
 
 // Hints to inline, here and in requests/: what only hands on is copied to its caller, where the kind of request is
 // known and the matches on it fold away, 190 to 350 instructions a step. What does a request stands once: copied to
-// each named call of an engine it would fill the cache of instructions.
+// each call that takes any it would fill the cache of instructions. Five that most steps make are inlined into the
+// engine's calls of their names besides (frequent.rt).
 // A message with a dialogue PDU and a prearranged end are rarer, and stand apart: so the rest of a request is small
 // enough for the toolchain to inline what writes it, 110 to 210 instructions a step.
 

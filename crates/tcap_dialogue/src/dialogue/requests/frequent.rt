@@ -1,8 +1,8 @@
 //! The requests that most steps make: each by itself, with the memory that other dialogues left, and each as a call.
 
 // `ask_with` takes any request. The toolchain counts all of them before those that don't come fold away, so each stands
-// apart there. Here one alone is small enough to be inlined into the engine's call of its name: an Invoke takes 50
-// instructions less so, a Begin and an End 40, a Continue 40 by an outbox.
+// apart there. Here one alone is small enough to be inlined into the engine's call of its name: steps 1 and 3 and a
+// lapse take 80 instructions less so; by an outbox a Begin takes 40 less besides, and an End 50.
 
 ghost use Rattle.std.specs.Prelude.{◌≡◌, ◌≤◌, ◌<◌, ◌^◌, ◌-◌};
 ghost use Rattle.tcap_dialogue.specs.RequestForm.{Answers, StepsInto, numbered, queued_done};
@@ -41,7 +41,7 @@ impl<A: Allocator + Copy> Dialogue<A> {
     }
 
     /// `invoke`, where the component takes memory that other dialogues left; where it is refused that is given back.
-    /// `reject_ms` is what the dialogue was made with.
+    /// `reject_ms` is what the dialogue was made with (Q.771, TC-INVOKE; the memory is our own).
     #[inline(always)]
     pub fn invoke_with(
         &mut self,
@@ -69,7 +69,7 @@ impl<A: Allocator + Copy> Dialogue<A> {
     }
 
     /// `result_last`, where the component takes memory that other dialogues left; where it is refused that is given
-    /// back. `reject_ms` is what the dialogue was made with.
+    /// back. `reject_ms` is what the dialogue was made with (Q.771, TC-RESULT-L; the memory is our own).
     #[inline(always)]
     pub fn result_last_with(
         &mut self,
@@ -94,7 +94,7 @@ impl<A: Allocator + Copy> Dialogue<A> {
     }
 
     /// `begin`, whose message is appended to what a sink holds. The queue, which is empty afterwards unless it is
-    /// refused, leaves its memory to others.
+    /// refused, leaves its memory to others (Q.771, TC-BEGIN; the memory is our own).
     #[inline(always)]
     pub fn begin_with<'m, K: SinkKind>(
         &mut self,
@@ -116,7 +116,7 @@ impl<A: Allocator + Copy> Dialogue<A> {
         sent
     }
 
-    /// `go_on`, as `begin_with`.
+    /// `go_on`, as `begin_with` (Q.771, TC-CONTINUE; the memory is our own).
     #[inline(always)]
     pub fn go_on_with<'m, K: SinkKind>(
         &mut self,
@@ -138,7 +138,8 @@ impl<A: Allocator + Copy> Dialogue<A> {
         sent
     }
 
-    /// `finish`, as `begin_with`; what the dialogue, which is over, leaves is for `leave_memory`.
+    /// `finish`, as `begin_with`; what the dialogue, which is over, leaves is for `leave_memory` (Q.771, TC-END; the
+    /// memory is our own).
     #[inline(always)]
     pub fn finish_with<'m, K: SinkKind>(
         &mut self,
