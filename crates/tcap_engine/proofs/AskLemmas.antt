@@ -1,19 +1,21 @@
 -- The table after one of its dialogues was asked.
-use Rattle.std.proofs.Common.{◌≡◌, ℕ, Bool, true, false, nat_eq, List, Option, Some, None, refl, ap, sym, ◌∙◌, if◌then◌else◌}
+use Rattle.std.proofs.Common.{◌≡◌, ℕ, Bool, true, false, nat_eq, List, Option, Some, None, Result, Ok, Err, refl, ap, sym, ◌∙◌, if◌then◌else◌}
 use Rattle.std.proofs.lemmas.Map.Steps.{set_value_same}
 use Rattle.std.specs.Map.{lookup, set_value, remove_entry}
 use Rattle.tcap_dialogue.specs.declared.dialogue.requests.Accepted.{Accepted}
 use Rattle.tcap_dialogue.specs.declared.dialogue.requests.Accepted.TheVariants as accepted
 use Rattle.tcap_dialogue.specs.AskViews.{accepted_outcome}
-use Rattle.tcap_dialogue.specs.RequestForm.{RefusedBy}
+use Rattle.tcap_dialogue.specs.RequestForm.{Answers, RefusedBy}
 use Rattle.tcap_dialogue.specs.StepViews.{Outcome}
-use Rattle.tcap_engine.specs.RequestInTable.{accepted_answer, ends_dialogue, EntriesMove, EntriesRefuse}
+use Rattle.tcap_engine.specs.RequestInTable.{accepted_answer, ends_dialogue, EntriesAnswer, EntriesMove, EntriesRefuse}
 use Rattle.tcap_engine.specs.DialogueEntries.{TableEntry, entries_with}
 use Rattle.tcap_engine.proofs.TableLemmas.{removed-set}
 use Rattle.tcap_model.specs.Table.Dialogue.{Dialogue}
 use Rattle.tcap_model.specs.Words.Answer.{Answer}
 use Rattle.tcap_model.specs.Words.Fault as model
 use Rattle.tcap_model.specs.Words.Output.{Output}
+use Rattle.tcap_primitives.specs.FaultViews.{fault_view}
+use Rattle.tcap_primitives.specs.declared.fault.Fault.{Fault}
 
 -- A refusal, where the dialogue was written back.
 module _ (o : Outcome) (old new : Dialogue) (d : ℕ) (ps : List TableEntry) (found : lookup (nat_eq d) ps ≡ Some old) where
@@ -36,6 +38,11 @@ module _ (o : Outcome) (old new : Dialogue) (d : ℕ) (ps : List TableEntry) (fo
   refused-placed model.Fault.not_class_four r = moved _ r
   refused-placed model.Fault.moment_too_late r = moved _ r
   refused-placed model.Fault.no_context r = moved _ r
+
+  -- An answer, or a refusal, where the dialogue was written back.
+  pub answers-placed : {T : Type 0} (view : T → Answer) (result : Result T Fault) → Answers view result o old new → EntriesAnswer view result o d ps (set_value (nat_eq d) ps new)
+  answers-placed view (Ok x) e = moved (view x) e
+  answers-placed view (Err f) e = refused-placed (fault_view f) e
 
 -- An answer, where the dialogue was written back or is taken out.
 module _ (told : List Output) (new : Dialogue) (d : ℕ) (ps : List TableEntry) where

@@ -1,18 +1,19 @@
 -- The engine after one of its dialogues was asked.
-use Rattle.std.proofs.Common.{◌≡◌, ℕ, ◌≤◌, true, false, nat_eq, List, Option, Some, None, Ok, Err, refl, ap, sym, ◌∙◌, subst, if◌then◌else◌, arith}
-use Rattle.std.specs.Prelude.{IfSome, IsTrue}
+use Rattle.std.proofs.Common.{◌≡◌, ℕ, ◌≤◌, true, false, nat_eq, List, Option, Some, None, Result, Ok, Err, refl, ap, sym, ◌∙◌, subst, if◌then◌else◌, arith}
+use Rattle.std.specs.Prelude.{IfSome, IsTrue, OnErr}
 use Rattle.std.specs.Map.{lookup}
 use Rattle.tcap_primitives.specs.declared.fault.Fault.{Fault}
 use Rattle.tcap_primitives.specs.declared.fault.Fault.TheVariants as fault
 use Rattle.tcap_dialogue.specs.RequestForm.{takes_memory}
 use Rattle.tcap_primitives.specs.FaultViews.{fault_view}
 use Rattle.tcap_dialogue.specs.StepViews.{Outcome, asked, outcome}
-use Rattle.tcap_engine.specs.StepForm.{Moves, EngineRefuses}
+use Rattle.tcap_engine.specs.StepForm.{Moves, EngineAnswers, EngineRefuses}
 use Rattle.tcap_engine.specs.RequestInTable.{IsLeft, AnswersInTable, EntriesMove, EntriesRefuse}
 use Rattle.tcap_engine.specs.DialogueEntries.{TableEntry, AreWithin, IsSound, dialogues_of, entries_with, IsWithin}
 use Rattle.tcap_engine.specs.declared.limits.Limits.{Limits}
 use Rattle.tcap_engine.proofs.KeptLemmas.{IsKept, kept-requested}
 use Rattle.tcap_engine.proofs.PlaceLemmas.{AreKept, dialogues-with, sound-with, found-within}
+use Rattle.tcap_engine.proofs.RefusedEngine.{table-still}
 use Rattle.tcap_engine.proofs.SpentLemmas.{number-left}
 use Rattle.tcap_model.specs.Words.Identifiers.{last_number}
 use Rattle.tcap_engine.proofs.TableLemmas.{found-in, found-own}
@@ -49,6 +50,13 @@ found-fit d reject_ms next ps h = go (lookup (nat_eq d) ps) refl
     go : (o : Option Dialogue) → lookup (nat_eq d) ps ≡ o → IfSome o (λ x. IsWithin reject_ms next x)
     go None e = tt
     go (Some x) e = found-within d reject_ms next x ps e h
+
+pub found-wait : (d reject_ms next : ℕ) (ps : List TableEntry) → AreWithin reject_ms next ps → IfSome (lookup (nat_eq d) ps) (λ x. x.invocations.reject_ms ≡ reject_ms)
+found-wait d reject_ms next ps h = go (lookup (nat_eq d) ps) refl
+  where
+    go : (o : Option Dialogue) → lookup (nat_eq d) ps ≡ o → IfSome o (λ x. x.invocations.reject_ms ≡ reject_ms)
+    go None e = tt
+    go (Some x) e = (found-within d reject_ms next x ps e h).0
 
 move-of : (w : World) (d : ℕ) (r : Request) (o : Option Dialogue) → dialogue_in d w.dialogues ≡ o → engine_move w (Event.on_dialogue d r) ≡ requested_in w d r o
 unfolding engine_move
@@ -167,3 +175,17 @@ module _ (limits : Limits) (next_dialogue number clock d : ℕ) (ps : List Table
       go : (o : Option Dialogue) → AnswersInTable view (Ok a) says d o ps qs → IsLeft (view a) number
       go None p = let no = p.0 in absurd cc
       go (Some x) p = subst (λ v. IsLeft v number) (sym p.0) (number-left (asked clock number) x r le)
+
+  -- ---- the same of any result, where no answer draws a number
+
+  pub asked-any : {T : Type 0} (view : T → Answer) (result : Result T Fault) (qs : List TableEntry) → ((a : T) → number_after (view a) number ≡ number) → AnswersInTable view result says d (lookup (nat_eq d) ps) ps qs → EngineAnswers view result (engine_move before (Event.on_dialogue d r)) before (engine_with number qs)
+  asked-any {T} view (Ok a) qs same h = subst (λ n. Moves (engine_move before (Event.on_dialogue d r)) (view a) (engine_with n qs)) (same a) (asked-ok view a qs h)
+  asked-any {T} view (Err f) qs same h = asked-err T view f qs h
+
+  pub sound-any : {T : Type 0} (view : T → Answer) (result : Result T Fault) (qs : List TableEntry) → ((a : T) → number_after (view a) number ≡ number) → AnswersInTable view result says d (lookup (nat_eq d) ps) ps qs → IsSound limits next_dialogue number clock qs
+  sound-any {T} view (Ok a) qs same h = subst (λ n. IsSound limits next_dialogue n clock qs) (same a) (sound-ok view a qs h)
+  sound-any {T} view (Err f) qs same h = sound-err T view f qs h
+
+  pub still-any : {T : Type 0} (view : T → Answer) (result : Result T Fault) (qs : List TableEntry) → AnswersInTable view result says d (lookup (nat_eq d) ps) ps qs → OnErr result (engine_with number qs ≡ before)
+  still-any {T} view (Ok a) qs h = tt
+  still-any {T} view (Err f) qs h = ap (engine_with number) (table-still (asked clock number) r d ps qs T view f h)

@@ -1,7 +1,9 @@
 -- A request that queues a component and frees no identifier leaves the next timer of its dialogue.
-use Rattle.std.proofs.Common.{◌≡◌, Bool, true, false, nat_lt, List, [], ◌∷◌, ◌++◌, Option, Some, None, refl, ap, ◌∙◌, if◌then◌else◌}
+use Rattle.std.proofs.Common.{◌≡◌, Bool, true, false, nat_lt, List, [], ◌∷◌, ◌++◌, Option, Some, None, Result, Ok, Err, refl, ap, sym, ◌∙◌, if◌then◌else◌}
 use Rattle.std.specs.List.{cons_option}
+use Rattle.tcap_dialogue.proofs.CallerLemmas.{refused-same}
 use Rattle.tcap_dialogue.specs.AskViews.{accepted_outcome}
+use Rattle.tcap_dialogue.specs.RequestForm.{Answers}
 use Rattle.tcap_dialogue.specs.StepViews.{Outcome, outcome}
 use Rattle.tcap_dialogue.specs.Timers.{earliest}
 use Rattle.tcap_dialogue.specs.declared.dialogue.requests.Accepted.{Accepted}
@@ -16,9 +18,12 @@ use Rattle.tcap_model.specs.Procedures.QueueRules.{Queued}
 use Rattle.tcap_model.specs.Procedures.Refusals.{due_on}
 use Rattle.tcap_model.specs.Table.Dialogue.{Dialogue, idle_end, with_invocations}
 use Rattle.tcap_model.specs.Table.TableMove.{Setting, Moved, DialogueEvent, table_move, requested_by, situation, accepted, with_queued, left_standing}
+use Rattle.tcap_model.specs.Words.Answer.{Answer}
 use Rattle.tcap_model.specs.Words.Fault.{Fault}
 use Rattle.tcap_model.specs.Words.Output.{Output}
 use Rattle.tcap_model.specs.Words.Request.{Request, ComponentRequest}
+use Rattle.tcap_primitives.specs.FaultViews.{fault_view}
+use Rattle.tcap_primitives.specs.declared.fault.Fault as primitives
 
 -- A row without a timer behind the others adds none.
 times-behind : (rows : List Row) (r : Row) → time_of r.1.stage ≡ None → times_of (rows ++ r ∷ []) ≡ times_of rows
@@ -78,3 +83,13 @@ timer-asked s r old new told a keeps is =
     let alike : IsAlike old m = moved-alike s old r keeps in
     let left = stands-asked told a new m.after (ap (λ (o : Outcome). o.1) is ∙ alike.0) in
     (left.0, ap timer_of left.1 ∙ alike.1)
+
+-- The same by what the request's own call answers.
+pub timer-answered : {T : Type 0} (view : T → Answer) (result : Result T primitives.Fault) (s : Setting) (r : Request) (old new : Dialogue) → keeps_timer r ≡ true → Answers view result (outcome (table_move s old (DialogueEvent.request r))) old new
+    → timer_of new ≡ timer_of old
+timer-answered view (Ok x) s r old new keeps is =
+    let m : Moved = table_move s old (DialogueEvent.request r) in
+    let alike : IsAlike old m = moved-alike s old r keeps in
+    let same : new ≡ m.after = some-same new m.after (sym (ap (λ (o : Outcome). o.1) is) ∙ alike.0) in
+    ap timer_of same ∙ alike.1
+timer-answered view (Err f) s r old new keeps is = ap timer_of (refused-same s r old new (fault_view f) is)

@@ -9,6 +9,7 @@ pub(crate) mod creation;
 pub(crate) mod dialogue_requests;
 pub(crate) mod events;
 pub(crate) mod faulty_message;
+pub(crate) mod frequent;
 pub(crate) mod getters;
 pub(crate) mod message_length;
 pub(crate) mod outbox_calls;

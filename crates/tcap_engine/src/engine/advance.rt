@@ -24,7 +24,7 @@ use crate::dialogues::{Dialogues, end_all};
 use std::alloc::Allocator;
 use tcap_dialogue::{Dialogue, Fault, Output, Sink, SinkKind, Timer};
 use tcap_invocation::MAX_MOMENT;
-use tcap_primitives::{ToVector, ranges};
+use tcap_primitives::ranges;
 
 /// How much room the answer to a moment needs.
 #[derive(Clone, Copy)]
@@ -42,6 +42,7 @@ impl<A: Allocator + Copy> Engine<A> {
     /// at which it had, then dialogue: TC-P-ABORT indication, and each invocation that is left, by number;
     /// no message goes out (own). A moment below the clock does nothing. Faults: `MomentTooLate`,
     /// `OutOfMemory`.
+    #[tactic(auto, using(crate::proofs::StandingLemmas::stands_after))]
     pub fn advance<'m>(&mut self, now: u64) -> Result<Vec<Output<'m, A>, A>, Fault>
         ensures moves { EngineAnswers outputs_answer result
             (engine_move self.old (Event.moment now)) self.old self.new }
@@ -49,28 +50,26 @@ impl<A: Allocator + Copy> Engine<A> {
         // Whatever legal history the engine stood at: the reply, and the history that it stands at then.
         ensures stands { Stands outputs_answer result (Event.moment now) self.old self.new }
     {
-        let mut sink = Sink::vector(self.table.allocator());
-        self.advance_with(now, &mut sink)?;
-        Ok(sink.into_vector())
-    }
-
-    /// `advance`, whose outputs are appended to what a sink holds.
-    #[tactic(auto, using(crate::proofs::StandingLemmas::stands_after))]
-    #[inline(always)]
-    fn advance_with<'m>(&mut self, now: u64, sink: &mut Sink<'m, A, ToVector>) -> Result<(), Fault>
-        ensures moves { EngineAnswers (since_answer sink.old.outputs sink.new.outputs)
-            result (engine_move self.old (Event.moment now)) self.old self.new }
-        ensures stands { Stands (since_answer sink.old.outputs sink.new.outputs) result
-            (Event.moment now) self.old self.new }
-        ensures kept { KeepsOutputs sink.old.outputs sink.new.outputs }
-        ensures err { OnErr result (self.new ≡ self.old) }
-        ensures still { OnErr result (sink.new.outputs ≡ sink.old.outputs) }
-    {
         ranges::long(now);
         match self.pass_if_still(now) {
-            Some(answer) => answer,
-            None => self.expire(now, sink),
+            Some(Ok(())) => Ok(Vec::new(self.table.allocator())),
+            Some(Err(fault)) => Err(fault),
+            None => self.expire_vector(now),
         }
+    }
+
+    /// The clock moves on to this moment, which isn't below it: what is due is told, in a vector.
+    // Apart from `advance`, which mostly finds nothing due: a moment at which nothing is takes 20 instructions less.
+    #[inline(never)]
+    fn expire_vector<'m>(&mut self, now: u64) -> Result<Vec<Output<'m, A>, A>, Fault>
+        requires late { now ≤ moment_limit }
+        requires up { self.old.clock ≤ now }
+        ensures moves { EngineAnswers outputs_answer result (advanced self.old now) self.old self.new }
+        ensures err { OnErr result (self.new ≡ self.old) }
+    {
+        let mut sink = Sink::vector(self.table.allocator());
+        self.expire(now, &mut sink)?;
+        Ok(sink.into_vector())
     }
 
     /// What is answered to a moment that is refused, or at which nothing is due: the clock is at it then, unless it is
@@ -168,6 +167,8 @@ impl<A: Allocator + Copy> Dialogues<A> {
 
     /// How much room the answer to a moment needs, as far as a `usize` can tell: none for outputs where
     /// nothing is told.
+    // Inlined: apart it took 21 instructions a lapse.
+    #[inline(always)]
     pub(super) fn capacity_at(&self, now: u64) -> Capacity
         ensures enough { length (all_told now (dialogues_of self.now)) + length
             (all_idle_told now (dialogues_of self.now)) ≤ result.told ⊎ (result.told ≡ 2 ^ 64 - 1) }

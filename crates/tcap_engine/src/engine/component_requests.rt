@@ -18,18 +18,23 @@ ghost use Rattle.tcap_model.specs.Histories.History.{History};
 ghost use Rattle.tcap_model.specs.Table.World.{World};
 
 use super::Engine;
+use super::frequent::{invoke_in, result_last_in};
+use super::requests::next_number;
 use std::alloc::Allocator;
 use tcap_component::{Body, Code, Problem};
 use tcap_dialogue::{
-    Asked, CancelRequest, ErrorRequest, Fault, InvokeRequest, RejectRequest, Request, ResultRequest,
+    Accepted, Asked, CancelRequest, ErrorRequest, Fault, InvokeRequest, RejectRequest, Request,
+    ResultRequest,
 };
 use tcap_invocation::Class;
+use tcap_primitives::ranges;
 
 impl<A: Allocator + Copy> Engine<A> {
     /// TC-INVOKE request: an invocation is queued, and its number answered. `id` and `linked` are -128 to
     /// 127, `parameter` is the octets of one element, `timeout_ms` is 1 to 2^62 milliseconds. Faults:
     /// `UnknownDialogue`, `BadTimeout`, `BadOid`, `BadParameter`, `InvokeIdInUse`, `NumbersSpent`,
     /// `TooLong`, `OutOfMemory`.
+    #[tactic(auto, using(crate::proofs::StandingLemmas::stands_after))]
     pub fn invoke(
         &mut self,
         dialogue: u32,
@@ -56,11 +61,23 @@ impl<A: Allocator + Copy> Engine<A> {
             linked,
             timeout_ms,
         };
-        number_of(self.request(dialogue, &Request::Invoke(invoke)))
+        ranges::short(dialogue);
+        ranges::request(&Request::Invoke(invoke));
+        let number = invoke_in(
+            &mut self.table,
+            dialogue,
+            self.limits.reject_ms,
+            self.next_number,
+            &invoke,
+        )?;
+        let next = next_number(Accepted::Number(number), self.next_number);
+        self.next_number = next;
+        Ok(number)
     }
 
     /// TC-RESULT-L request: the last or only result of an invocation of the peer, -128 to 127, is queued.
     /// Faults: `UnknownDialogue`, `WrongState`, `BadOid`, `BadParameter`, `TooLong`, `OutOfMemory`.
+    #[tactic(auto, using(crate::proofs::StandingLemmas::stands_after))]
     pub fn result_last(
         &mut self,
         dialogue: u32,
@@ -74,7 +91,10 @@ impl<A: Allocator + Copy> Engine<A> {
             (ComponentRequest.result_last id (option_map body_parts body.entry)))) self.old self.new }
         ensures err { OnErr result (self.new ≡ self.old) }
     {
-        queued_of(self.request(dialogue, &Request::ResultLast(ResultRequest { id, body })))
+        let result = ResultRequest { id, body };
+        ranges::short(dialogue);
+        ranges::request(&Request::ResultLast(result));
+        result_last_in(&mut self.table, dialogue, self.limits.reject_ms, &result)
     }
 
     /// TC-RESULT-NL request: a result of an invocation of the peer, -128 to 127, that others follow is
@@ -142,22 +162,6 @@ impl<A: Allocator + Copy> Engine<A> {
         ensures err { OnErr result (self.new ≡ self.old) }
     {
         given_up_of(self.request(dialogue, &Request::Cancel(CancelRequest { id })))
-    }
-}
-
-/// The number of a new invocation.
-#[inline(always)]
-fn number_of<A: Allocator + Copy>(asked: Result<Asked<'_, A>, Fault>) -> Result<u64, Fault>
-    requires { IfOk asked (λ a. MayAnswer AnswerKind.number (asked_answer a)) }
-    ensures moves { (m : EngineMoved) (old new : World) → EngineAnswers asked_answer asked.entry m old new
-        → EngineAnswers numbered result m old new }
-    ensures stands { (h : History) (event : Event) (new : World)
-        → StandsAfter asked_answer asked.entry h event new → StandsAfter numbered result h event new }
-    ensures err { (old new : World) → OnErr asked.entry (new ≡ old) → OnErr result (new ≡ old) }
-{
-    match asked? {
-        Asked::Number(number) => Ok(number),
-        Asked::Done | Asked::GivenUp(_) | Asked::Step(_) => unreachable!(),
     }
 }
 

@@ -62,10 +62,9 @@ impl<A: Allocator + Copy> Engine<A> {
             (DialogueRequest.begin to.now (option_copied context.entry) info.now))) self.old self.new }
         ensures err { OnErr result (self.new ≡ self.old) }
     {
-        self.ask_step(
-            dialogue,
-            &Request::Begin(BeginRequest { to, context, info }),
-        )
+        let mut sink = Sink::vector(self.table.allocator());
+        self.begin_with(dialogue, &BeginRequest { to, context, info }, &mut sink)?;
+        Ok(sink.into_vector())
     }
 
     /// TC-CONTINUE request: the queue goes out in a Continue to the peer's address. In Received an AARQ is
@@ -86,10 +85,9 @@ impl<A: Allocator + Copy> Engine<A> {
             (model.Request.dialogue (DialogueRequest.go_on (option_copied context.entry) info.now))) self.old self.new }
         ensures err { OnErr result (self.new ≡ self.old) }
     {
-        self.ask_step(
-            dialogue,
-            &Request::Continue(ContinueRequest { context, info }),
-        )
+        let mut sink = Sink::vector(self.table.allocator());
+        self.go_on_with(dialogue, &ContinueRequest { context, info }, &mut sink)?;
+        Ok(sink.into_vector())
     }
 
     /// TC-END request: a basic end sends the queue in an End to the peer's address, a prearranged one nothing;
@@ -115,7 +113,9 @@ impl<A: Allocator + Copy> Engine<A> {
             context,
             info,
         };
-        self.ask_step(dialogue, &Request::End(end))
+        let mut sink = Sink::vector(self.table.allocator());
+        self.finish_with(dialogue, &end, &mut sink)?;
+        Ok(sink.into_vector())
     }
 
     /// TC-U-ABORT request: an Abort goes out to the peer's address, if the peer knows the dialogue; this is
@@ -137,7 +137,7 @@ impl<A: Allocator + Copy> Engine<A> {
     }
 
     /// A request of dialogue handling: what is sent and told.
-    // Each named call has its own copy, in which the request is known and the match on it folds away.
+    // Each call that knows its request has its own copy, in which the match on it folds away.
     #[inline(always)]
     fn ask_step<'m>(
         &mut self,

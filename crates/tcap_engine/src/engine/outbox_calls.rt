@@ -1,10 +1,11 @@
 //! The calls whose outputs are appended to an outbox: each does what the call of its name without `_into` does.
 
-ghost use Rattle.std.specs.Prelude.{◌≡◌, option_copied, OnErr};
+ghost use Rattle.std.specs.Prelude.{◌≡◌, ◌≤◌, option_copied, OnErr};
 ghost use Rattle.tcap_engine.specs.AnswerKinds.{AnswerKind, kind_of};
 ghost use Rattle.tcap_engine.specs.StepForm.{EngineAnswers, EngineReceives, since_answer};
 ghost use Rattle.tcap_engine.specs.HistoryForm.{Stands, StandsReceived};
-ghost use Rattle.tcap_model.specs.Table.EngineMove.{engine_move};
+ghost use Rattle.tcap_invocation.specs.Stage.{moment_limit};
+ghost use Rattle.tcap_model.specs.Table.EngineMove.{advanced, engine_move};
 ghost use Rattle.tcap_model.specs.Words.Event.{Event};
 ghost use Rattle.tcap_model.specs.Words.Request as model;
 ghost use Rattle.tcap_model.specs.Words.Request.{DialogueRequest};
@@ -65,6 +66,21 @@ impl<A: Allocator + Copy> Engine<A> {
         if let Some(answer) = self.pass_if_still(now) {
             return answer;
         }
+        self.expire_into(now, outbox)
+    }
+
+    /// The clock moves on to this moment, which isn't below it: what is due is told, into an outbox.
+    // Apart from `advance_into`, which mostly finds nothing due: a Continue and its moment take 24 instructions less.
+    #[inline(never)]
+    fn expire_into(&mut self, now: u64, outbox: &mut Outbox<A>) -> Result<(), Fault>
+        requires late { now ≤ moment_limit }
+        requires up { self.old.clock ≤ now }
+        ensures moves { EngineAnswers (since_answer outbox.old.outputs outbox.new.outputs)
+            result (advanced self.old now) self.old self.new }
+        ensures kept { KeepsOutputs outbox.old.outputs outbox.new.outputs }
+        ensures err { OnErr result (self.new ≡ self.old) }
+        ensures still { OnErr result (outbox.new.outputs ≡ outbox.old.outputs) }
+    {
         let alloc = self.table.allocator();
         let mut sink = Sink::outbox(alloc, mem::replace(outbox, Outbox::new(alloc)));
         let expired = self.expire(now, &mut sink);
@@ -117,11 +133,11 @@ impl<A: Allocator + Copy> Engine<A> {
             (Event.on_dialogue dialogue (model.Request.dialogue
             (DialogueRequest.begin to.now (option_copied context.entry) info.now))) self.old self.new }
     {
-        self.request_into(
-            dialogue,
-            &Request::Begin(BeginRequest { to, context, info }),
-            outbox,
-        )
+        let alloc = self.table.allocator();
+        let mut sink = Sink::outbox(alloc, mem::replace(outbox, Outbox::new(alloc)));
+        let sent = self.begin_with(dialogue, &BeginRequest { to, context, info }, &mut sink);
+        sink.put_back(outbox);
+        sent
     }
 
     /// `go_on`, into an outbox.
@@ -142,11 +158,11 @@ impl<A: Allocator + Copy> Engine<A> {
             (Event.on_dialogue dialogue (model.Request.dialogue
             (DialogueRequest.go_on (option_copied context.entry) info.now))) self.old self.new }
     {
-        self.request_into(
-            dialogue,
-            &Request::Continue(ContinueRequest { context, info }),
-            outbox,
-        )
+        let alloc = self.table.allocator();
+        let mut sink = Sink::outbox(alloc, mem::replace(outbox, Outbox::new(alloc)));
+        let sent = self.go_on_with(dialogue, &ContinueRequest { context, info }, &mut sink);
+        sink.put_back(outbox);
+        sent
     }
 
     /// `finish`, into an outbox.
@@ -173,7 +189,11 @@ impl<A: Allocator + Copy> Engine<A> {
             context,
             info,
         };
-        self.request_into(dialogue, &Request::End(end), outbox)
+        let alloc = self.table.allocator();
+        let mut sink = Sink::outbox(alloc, mem::replace(outbox, Outbox::new(alloc)));
+        let sent = self.finish_with(dialogue, &end, &mut sink);
+        sink.put_back(outbox);
+        sent
     }
 
     /// `u_abort`, into an outbox.
@@ -202,7 +222,7 @@ impl<A: Allocator + Copy> Engine<A> {
     }
 
     /// A request of dialogue handling, into an outbox.
-    // Each named call has its own copy, in which the request is known and the match on it folds away.
+    // Each call that knows its request has its own copy, in which the match on it folds away.
     #[inline(always)]
     pub fn request_into(
         &mut self,

@@ -96,7 +96,7 @@ fn ask_one<'m, A: Allocator + Copy, K: SinkKind>(
 }
 
 /// A request on the dialogue of an identifier, which is taken out where it is over.
-// Each named call of the engine has its own copy, in which the request is known and the match on it folds away.
+// Each call that knows its request has its own copy, in which the match on it folds away.
 #[inline(always)]
 fn ask_in<'m, A: Allocator + Copy, K: SinkKind>(
     table: &mut Dialogues<A>,
@@ -139,7 +139,7 @@ fn ask_in<'m, A: Allocator + Copy, K: SinkKind>(
 
 /// The number of the next invocation: one that was answered is drawn.
 #[inline(always)]
-fn next_number(accepted: Accepted, next: u64) -> u64
+pub(super) fn next_number(accepted: Accepted, next: u64) -> u64
     requires { (told : List model.Output) → IsLeft (accepted_answer told accepted) next }
     ensures { (told : List model.Output) → result ≡ number_after (accepted_answer told accepted) next }
 {
@@ -152,7 +152,7 @@ fn next_number(accepted: Accepted, next: u64) -> u64
 impl<A: Allocator + Copy> Engine<A> {
     /// Any request on the dialogue with this identifier; the calls of their own names are the same. Faults:
     /// `UnknownDialogue`, and those of the request.
-    // Each named call has its own copy, in which the request is known and the match on it folds away.
+    // Each call that knows its request has its own copy, in which the match on it folds away.
     #[inline(always)]
     pub fn request<'m>(
         &mut self,
