@@ -178,8 +178,10 @@ fn put_source<A: Allocator + Copy>(out: &mut Vec<u8, A>, by_provider: bool)
 }
 
 /// Appends an ABRT with its EXTERNAL.
+// Rare, and called: with it a message that has a dialogue PDU would be too large to be inlined into what sends it, 50
+// instructions a message.
 #[tactic(auto, using(crate::proofs::DialogueLength::element_most, crate::proofs::DialogueLength::information_most))]
-#[inline(always)]
+#[inline(never)]
 fn put_abort<A: Allocator + Copy>(out: &mut Vec<u8, A>, by_provider: bool, info: &[u8])
     requires info { length info.now ≤ portion_limit }
     requires short { external_length (element_length 1 + information_length (length info.now)) ≤ portion_limit }
