@@ -22,4 +22,4 @@ pub use tcap_primitives::{
     OutboxIter, Output, OutputRef, RejectRequest, Request, ResultRequest, Sink, SinkKind,
     UniRequest, Why, write_abort,
 };
-pub use tcap_reception::{BeginVerdict, PortionVerdict, State, judge_begin, judge_uni};
+pub use tcap_reception::{After, BeginVerdict, PortionVerdict, State, judge_begin, judge_uni};

@@ -122,10 +122,8 @@ impl<A: Allocator + Copy> Dialogue<A> {
         self.borrow(spares, reject_ms, request);
         match self.ask_into(clock, number, request, sink) {
             Ok(accepted) => {
-                if matches!(request, Request::Begin(_) | Request::Continue(_)) {
-                    spares.make_places();
-                }
-                self.leave_queue(spares);
+                let goes_on = matches!(request, Request::Begin(_) | Request::Continue(_));
+                self.leave_sent(spares, goes_on);
                 Ok(accepted)
             }
             Err(fault) => {
@@ -147,19 +145,6 @@ impl<A: Allocator + Copy> Dialogue<A> {
             self.borrow_for_invoke(spares, reject_ms);
         } else if queues_component(request) {
             self.borrow_queue(spares);
-        }
-    }
-
-    /// Gives back what was taken for a request that is refused: an empty queue, and of an Invoke an empty list.
-    #[inline(never)]
-    pub(super) fn give_back(&mut self, spares: &mut Spares<A>, reject_ms: u64, is_invoke: bool)
-        requires wait { self.old.invocations.reject_ms ≡ reject_ms }
-        requires limited { reject_ms ≤ moment_limit }
-        ensures { self.new ≡ self.old }
-    {
-        self.leave_queue(spares);
-        if is_invoke && self.invocations.is_above_all(0) {
-            spares.keep_list(&mut self.invocations, reject_ms);
         }
     }
 

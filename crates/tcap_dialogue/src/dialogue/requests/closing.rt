@@ -234,7 +234,7 @@ impl<A: Allocator + Copy> Dialogue<A> {
         ensures kept { self.new.standing.identifier ≡ self.old.standing.identifier }
     {
         let mut sink = Sink::vector(*self.queue.octets.allocator());
-        let after = self.send_end(request, &mut sink)?;
+        let after = self.send_end_apart(request, &mut sink)?;
         let outputs = sink.into_vector();
         Ok(Step {
             outputs,

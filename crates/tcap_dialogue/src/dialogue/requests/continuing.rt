@@ -193,7 +193,7 @@ impl<A: Allocator + Copy> Dialogue<A> {
         ensures kept { self.new.standing.identifier ≡ self.old.standing.identifier }
     {
         let mut sink = Sink::vector(*self.queue.octets.allocator());
-        let after = self.send_continue(request, clock, &mut sink)?;
+        let after = self.send_continue_apart(request, clock, &mut sink)?;
         let outputs = sink.into_vector();
         Ok(Step {
             outputs,

@@ -40,6 +40,31 @@ impl<A: Allocator + Copy> Dialogue<A> {
         spares.lend_list(&mut self.invocations, reject_ms);
     }
 
+    /// Gives back what was taken for a request that is refused: an empty queue, and of an Invoke an empty list.
+    #[inline(never)]
+    pub(super) fn give_back(&mut self, spares: &mut Spares<A>, reject_ms: u64, is_invoke: bool)
+        requires wait { self.old.invocations.reject_ms ≡ reject_ms }
+        requires limited { reject_ms ≤ moment_limit }
+        ensures { self.new ≡ self.old }
+    {
+        self.leave_queue(spares);
+        if is_invoke && self.invocations.is_above_all(0) {
+            spares.keep_list(&mut self.invocations, reject_ms);
+        }
+    }
+
+    /// Leaves the memory of the queue to others, where it is empty; where the dialogue goes on, with places made for
+    /// what is left.
+    #[inline(always)]
+    pub(super) fn leave_sent(&mut self, spares: &mut Spares<A>, goes_on: bool)
+        ensures { self.new ≡ self.old }
+    {
+        if goes_on {
+            spares.make_places();
+        }
+        self.leave_queue(spares);
+    }
+
     /// `invoke`, where the component takes memory that other dialogues left; where it is refused that is given back.
     /// `reject_ms` is what the dialogue was made with (Q.771, TC-INVOKE; the memory is our own).
     #[inline(always)]
@@ -93,7 +118,7 @@ impl<A: Allocator + Copy> Dialogue<A> {
         }
     }
 
-    /// `begin`, whose message is appended to what a sink holds. The queue, which is empty afterwards unless it is
+    /// `begin`, whose message is appended to what a sink holds. The queue, which is empty afterwards unless the Begin is
     /// refused, leaves its memory to others (Q.771, TC-BEGIN; the memory is our own).
     #[inline(always)]
     pub fn begin_with<'m, K: SinkKind>(
@@ -109,10 +134,7 @@ impl<A: Allocator + Copy> Dialogue<A> {
         ensures kept { self.new.standing.identifier ≡ self.old.standing.identifier }
     {
         let sent = self.send_begin(request, clock, sink);
-        if sent.is_ok() {
-            spares.make_places();
-        }
-        self.leave_queue(spares);
+        self.leave_sent(spares, sent.is_ok());
         sent
     }
 
@@ -131,10 +153,7 @@ impl<A: Allocator + Copy> Dialogue<A> {
         ensures kept { self.new.standing.identifier ≡ self.old.standing.identifier }
     {
         let sent = self.send_continue(request, clock, sink);
-        if sent.is_ok() {
-            spares.make_places();
-        }
-        self.leave_queue(spares);
+        self.leave_sent(spares, sent.is_ok());
         sent
     }
 
@@ -152,6 +171,7 @@ impl<A: Allocator + Copy> Dialogue<A> {
         ensures kept { self.new.standing.identifier ≡ self.old.standing.identifier }
     {
         let sent = self.send_end(request, sink);
+        // Where it is over, `leave_memory` follows, which leaves the queue too.
         if sent.is_err() {
             self.leave_queue(spares);
         }

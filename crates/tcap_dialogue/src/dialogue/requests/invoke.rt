@@ -74,7 +74,7 @@ impl<A: Allocator + Copy> Dialogue<A> {
             linked,
             timeout_ms,
         };
-        self.queue_invoke(number, &request)
+        self.queue_invoke_apart(number, &request)
     }
 
     /// TC-U-CANCEL request: the number of the invocation that is given up. An Invoke that wasn't sent

@@ -231,7 +231,7 @@ impl<A: Allocator + Copy> Dialogue<A> {
         ensures kept { self.new.standing.identifier ≡ self.old.standing.identifier }
     {
         let mut sink = Sink::vector(*self.queue.octets.allocator());
-        let after = self.send_begin(request, clock, &mut sink)?;
+        let after = self.send_begin_apart(request, clock, &mut sink)?;
         let outputs = sink.into_vector();
         Ok(Step {
             outputs,

@@ -30,7 +30,7 @@ impl<A: Allocator + Copy> Dialogue<A> {
             (Request.component (result_last id (option_map body_parts body.entry)))) self.old self.new }
         ensures kept { self.new.standing.identifier ≡ self.old.standing.identifier }
     {
-        self.queue_result_last(&ResultRequest { id, body })
+        self.queue_result_last_apart(&ResultRequest { id, body })
     }
 
     /// TC-RESULT-NL request.

@@ -132,7 +132,7 @@ impl<A: Allocator + Copy> Dialogue<A> {
     }
 
     /// Judges a Unidirectional, and writes it; the dialogue is over.
-    // `ask` is copied to each named call of an engine; what it calls stands once, here and below.
+    // `ask` is copied to each call that takes any request; what it calls stands once, here and below.
     #[inline(never)]
     pub(super) fn send_uni<'m, K: SinkKind>(
         &mut self,
