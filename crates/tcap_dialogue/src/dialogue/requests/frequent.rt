@@ -118,8 +118,8 @@ impl<A: Allocator + Copy> Dialogue<A> {
         }
     }
 
-    /// `begin`, whose message is appended to what a sink holds. The queue, which is empty afterwards unless the Begin is
-    /// refused, leaves its memory to others (Q.771, TC-BEGIN; the memory is our own).
+    /// `begin`, whose message is appended to what a sink holds. The queue leaves its memory to others; it is empty,
+    /// unless the Begin is refused (Q.771, TC-BEGIN; the memory is our own).
     #[inline(always)]
     pub fn begin_with<'m, K: SinkKind>(
         &mut self,
