@@ -54,14 +54,14 @@ impl<A: Allocator + Copy> Engine<A> {
         match self.pass_if_still(now) {
             Some(Ok(())) => Ok(Vec::new(self.table.allocator())),
             Some(Err(fault)) => Err(fault),
-            None => self.expire_vector(now),
+            None => self.expire_to_vector(now),
         }
     }
 
     /// The clock moves on to this moment, which isn't below it: what is due is told, in a vector.
-    // Apart from `advance`, which mostly finds nothing due: a moment at which nothing is takes 20 instructions less.
+    // Apart from `advance`, which mostly finds nothing due: such a moment takes 20 instructions less.
     #[inline(never)]
-    fn expire_vector<'m>(&mut self, now: u64) -> Result<Vec<Output<'m, A>, A>, Fault>
+    fn expire_to_vector<'m>(&mut self, now: u64) -> Result<Vec<Output<'m, A>, A>, Fault>
         requires late { now ≤ moment_limit }
         requires up { self.old.clock ≤ now }
         ensures moves { EngineAnswers outputs_answer result (advanced self.old now) self.old self.new }

@@ -1,6 +1,6 @@
 //! The requests of component handling (Q.771, Component handling).
 
-// In each named call the kind of answer is known: inlined, the match on it folds away.
+// Where a call goes by `request`, the kind of its answer is known: inlined, the match on it folds away.
 
 ghost use Rattle.std.specs.Prelude.{◌≡◌, option_copied, OnErr, IfOk};
 ghost use Rattle.std.specs.Option.{option_map};
@@ -19,12 +19,10 @@ ghost use Rattle.tcap_model.specs.Table.World.{World};
 
 use super::Engine;
 use super::frequent::{invoke_in, result_last_in};
-use super::requests::next_number;
 use std::alloc::Allocator;
 use tcap_component::{Body, Code, Problem};
 use tcap_dialogue::{
-    Accepted, Asked, CancelRequest, ErrorRequest, Fault, InvokeRequest, RejectRequest, Request,
-    ResultRequest,
+    Asked, CancelRequest, ErrorRequest, Fault, InvokeRequest, RejectRequest, Request, ResultRequest,
 };
 use tcap_invocation::Class;
 use tcap_primitives::ranges;
@@ -70,8 +68,7 @@ impl<A: Allocator + Copy> Engine<A> {
             self.next_number,
             &invoke,
         )?;
-        let next = next_number(Accepted::Number(number), self.next_number);
-        self.next_number = next;
+        self.next_number += 1;
         Ok(number)
     }
 

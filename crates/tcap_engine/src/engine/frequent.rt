@@ -1,12 +1,12 @@
 //! The requests that most steps make: each finds its dialogue and asks it by a call of its own.
 
 // `ask` takes any request. The toolchain counts all of them before those that don't come fold away, so what a request
-// does stands apart there. Here one alone is inlined whole: steps 1 and 3 and a lapse take 80 instructions less so, step
-// 2 26; by an outbox a Begin takes 40 less besides, and an End 50.
+// does stands apart there. Here one alone is inlined, but for what is rare: steps 1 and 3 and a lapse take 80
+// instructions less so, step 2 26; by an outbox a Begin takes 40 less besides, and an End 50.
 
-ghost use Rattle.std.specs.Prelude.{◌≡◌, ◌≤◌, ℕ, nat_eq, IfSome, OnErr};
+ghost use Rattle.std.specs.Prelude.{◌≡◌, ◌≤◌, ℕ, nat_eq, true, IfSome, OnErr};
 ghost use Rattle.std.specs.Map.{lookup};
-ghost use Rattle.tcap_dialogue.specs.RequestForm.{numbered, queued_done};
+ghost use Rattle.tcap_dialogue.specs.RequestForm.{RefusedBy, numbered, queued_done};
 ghost use Rattle.tcap_dialogue.specs.StepViews.{asked, outcome};
 ghost use Rattle.tcap_engine.specs.DialogueEntries.{IsWithin};
 ghost use Rattle.tcap_engine.specs.HistoryForm.{Stands};
@@ -16,7 +16,9 @@ ghost use Rattle.tcap_invocation.specs.Stage.{moment_limit};
 ghost use Rattle.tcap_model.specs.Table.EngineMove.{engine_move};
 ghost use Rattle.tcap_model.specs.Table.TableMove.{DialogueEvent, table_move};
 ghost use Rattle.tcap_model.specs.Words.Event.{Event};
+ghost use Rattle.tcap_model.specs.Words.Identifiers.{are_numbers_spent};
 ghost use Rattle.tcap_model.specs.Words.Request as model;
+ghost use Rattle.tcap_primitives.specs.FaultViews.{fault_view};
 ghost use Rattle.tcap_primitives.specs.RequestViews.{begin_view, continue_view, end_view, invoke_view, last_view};
 ghost use Rattle.tcap_primitives.specs.SinkViews.{KeepsOutputs};
 
@@ -24,10 +26,29 @@ use super::Engine;
 use crate::dialogues::{Dialogues, settle, timer_after};
 use std::alloc::Allocator;
 use tcap_dialogue::{
-    BeginRequest, ContinueRequest, EndRequest, Fault, InvokeRequest, Request, ResultRequest, Sink,
-    SinkKind,
+    BeginRequest, ContinueRequest, Dialogue, EndRequest, Fault, InvokeRequest, Request,
+    ResultRequest, Sink, SinkKind,
 };
 use tcap_primitives::ranges;
+
+/// Why an Invoke is refused where all numbers are spent: for a fault of its own, if it has one.
+#[inline(never)]
+pub(super) fn spent_fault<A: Allocator + Copy>(
+    dialogue: &Dialogue<A>,
+    request: &InvokeRequest<'_>,
+) -> Fault
+    ensures { (clock number : ℕ) → are_numbers_spent number ≡ true → RefusedBy (fault_view result)
+        (outcome (table_move (asked clock number) dialogue.now
+        (DialogueEvent.request (model.Request.component (invoke_view request.now))))) dialogue.now dialogue.now }
+{
+    let fault = dialogue.check_invoke(
+        request.id,
+        request.code,
+        request.parameter,
+        request.timeout_ms,
+    );
+    fault.unwrap_or(Fault::NumbersSpent)
+}
 
 /// TC-INVOKE on the dialogue of an identifier, where `number` is what it gets; the greatest one is never drawn.
 #[inline(always)]
@@ -49,13 +70,7 @@ pub(super) fn invoke_in<A: Allocator + Copy>(
         return Err(Fault::UnknownDialogue);
     };
     if number == u64::MAX {
-        let fault = dialogue.check_invoke(
-            request.id,
-            request.code,
-            request.parameter,
-            request.timeout_ms,
-        );
-        return Err(fault.unwrap_or(Fault::NumbersSpent));
+        return Err(spent_fault(dialogue, request));
     }
     dialogue.invoke_with(&mut table.spares, reject_ms, number, request)
 }

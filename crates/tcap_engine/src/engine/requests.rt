@@ -23,6 +23,7 @@ ghost use Rattle.tcap_model.specs.Table.World.{World};
 ghost use Rattle.tcap_model.specs.Words.Output as model;
 
 use super::Engine;
+use super::frequent::spent_fault;
 use crate::dialogues::{Dialogues, settle, timer_after};
 use std::alloc::Allocator;
 use tcap_dialogue::{Accepted, Asked, Dialogue, Fault, Request, Sink, SinkKind, Spares};
@@ -83,13 +84,7 @@ fn ask_one<'m, A: Allocator + Copy, K: SinkKind>(
 {
     if number == u64::MAX {
         if let Request::Invoke(invoke) = request {
-            let fault = dialogue.check_invoke(
-                invoke.id,
-                invoke.code,
-                invoke.parameter,
-                invoke.timeout_ms,
-            );
-            return Err(fault.unwrap_or(Fault::NumbersSpent));
+            return Err(spent_fault(dialogue, invoke));
         }
     }
     dialogue.ask_with(spares, reject_ms, clock, number, request, sink)
@@ -139,7 +134,7 @@ fn ask_in<'m, A: Allocator + Copy, K: SinkKind>(
 
 /// The number of the next invocation: one that was answered is drawn.
 #[inline(always)]
-pub(super) fn next_number(accepted: Accepted, next: u64) -> u64
+fn next_number(accepted: Accepted, next: u64) -> u64
     requires { (told : List model.Output) → IsLeft (accepted_answer told accepted) next }
     ensures { (told : List model.Output) → result ≡ number_after (accepted_answer told accepted) next }
 {

@@ -1,4 +1,4 @@
-use Rattle.std.proofs.Common.{rules, arith, Fits, w64, ◌≡◌, ◌≤◌, [], Ok, Err, option_copied, to_z, of_z}
+use Rattle.std.proofs.Common.{rules, arith, Fits, w64, ◌≡◌, ◌≤◌, Ok, Err, option_copied, to_z, of_z}
 use Rattle.std.proofs.lemmas.Int.{to_z-of_z}
 use Rattle.std.specs.Int.{w8}
 use Rattle.tcap_component.specs.Views.{code_parts}
@@ -32,29 +32,29 @@ returns-in_err-number-clause-moves g c =
     rw (is, ← c.self.view_is)
     (asked-err s.limits s.next_dialogue s.next_number s.clock c.args.dialogue s.table r c.self.invariant _ numbered c.in_err-number.field-0.0 c.invoke_in.new.table (rw same at (c.in_err-number.ensures s.clock)))
 
-pub next_number-next-requires : goal.next_number-next-requires
-next_number-next-requires g c told =
+pub overflow_add-self : goal.overflow_add-self
+overflow_add-self g c =
     let s = c.self.inside in
     let same : to_z w8 (of_z w8 c.args.id) ≡ c.args.id = to_z-of_z w8 c.args.id (search rules) in
     let r : Request = Request.component (ComponentRequest.invoke c.args.id c.args.class (code_parts c.args.code) (option_copied c.args.parameter) c.args.linked c.args.timeout_ms) in
     let fits : Fits w64 s.next_number = search rules in
     let le : s.next_number ≤ last_number = omega (arith, fits) in
-    left-ok s.limits s.next_dialogue s.next_number s.clock c.args.dialogue s.table r c.self.invariant numbered c.in_ok-number.number c.invoke_in.new.table le (rw same at (c.in_ok-number.ensures s.clock))
+    let left = left-ok s.limits s.next_dialogue s.next_number s.clock c.args.dialogue s.table r c.self.invariant numbered c.in_ok-number.number c.invoke_in.new.table le (rw same at (c.in_ok-number.ensures s.clock)) in
+    search (rules, arith, left)
 
 pub invariant_of-self-2 : goal.invariant_of-self-2
 invariant_of-self-2 g c =
     let s = c.self.inside in
     let same : to_z w8 (of_z w8 c.args.id) ≡ c.args.id = to_z-of_z w8 c.args.id (search rules) in
     let r : Request = Request.component (ComponentRequest.invoke c.args.id c.args.class (code_parts c.args.code) (option_copied c.args.parameter) c.args.linked c.args.timeout_ms) in
-    rw (c.next_number-next.ensures [])
-    (sound-ok s.limits s.next_dialogue s.next_number s.clock c.args.dialogue s.table r c.self.invariant numbered c.in_ok-number.number c.invoke_in.new.table (rw same at (c.in_ok-number.ensures s.clock)))
+    sound-ok s.limits s.next_dialogue s.next_number s.clock c.args.dialogue s.table r c.self.invariant numbered c.in_ok-number.number c.invoke_in.new.table (rw same at (c.in_ok-number.ensures s.clock))
 
 pub returns-clause-moves : goal.returns-clause-moves
 returns-clause-moves g c =
     let s = c.self.inside in
     let same : to_z w8 (of_z w8 c.args.id) ≡ c.args.id = to_z-of_z w8 c.args.id (search rules) in
     let r : Request = Request.component (ComponentRequest.invoke c.args.id c.args.class (code_parts c.args.code) (option_copied c.args.parameter) c.args.linked c.args.timeout_ms) in
-    rw (c.next_number-next.ensures [], ← c.self.view_is)
+    rw (← c.self.view_is)
     (asked-ok s.limits s.next_dialogue s.next_number s.clock c.args.dialogue s.table r c.self.invariant numbered c.in_ok-number.number c.invoke_in.new.table (rw same at (c.in_ok-number.ensures s.clock)))
 
 pub returns-in_err-number-clause-err : goal.returns-in_err-number-clause-err

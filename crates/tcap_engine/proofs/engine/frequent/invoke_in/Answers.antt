@@ -1,14 +1,10 @@
-use Rattle.std.proofs.Common.{rules, ◌≡◌, nat_eq, List, Some, refl, true, arith, option_copied, unwrap_or, to_z, of_z}
+use Rattle.std.proofs.Common.{rules, ◌≡◌, nat_eq, List, Some, refl, true, arith}
 use Rattle.std.specs.Map.{lookup}
-use Rattle.std.specs.Int.{w8}
 use Rattle.std.proofs.lemmas.Bool.Decides.{nat_tests}
-use Rattle.std.proofs.lemmas.Int.{to_z-of_z}
-use Rattle.tcap_component.specs.Views.{code_parts}
 use Rattle.tcap_dialogue.specs.RequestForm.{numbered}
 use Rattle.tcap_dialogue.specs.StepViews.{Outcome, asked, outcome}
 use Rattle.tcap_engine.proofs.AskLemmas.{answers-placed, refused-placed}
 use Rattle.tcap_engine.proofs.QueuedLemmas.{timer-answered}
-use Rattle.tcap_engine.proofs.SpentLemmas.{spent-refused}
 use Rattle.tcap_engine.proofs.TimedLemmas.{timed-alike}
 use Rattle.tcap_engine.specs.DialogueEntries.{TableEntry}
 use Rattle.tcap_model.specs.Table.TableMove.{DialogueEvent, table_move}
@@ -16,7 +12,6 @@ use Rattle.tcap_model.specs.Words.Identifiers.{are_numbers_spent}
 use Rattle.tcap_model.specs.Words.Request.{Request}
 use Rattle.tcap_primitives.specs.FaultViews.{fault_view}
 use Rattle.tcap_primitives.specs.RequestViews.{invoke_view}
-use Rattle.tcap_primitives.specs.declared.fault.Fault.TheVariants as fault
 use Rattle.timed_table.specs.Row.{entries_of}
 use Rattle.tcap_engine.proofs.engine.frequent.invoke_in.Goals as goal
 
@@ -31,14 +26,10 @@ pub returns-then-number-eq18446744073709551615 : goal.returns-then-number-eq1844
 returns-then-number-eq18446744073709551615 g c clock =
     let ps : List TableEntry = entries_of c.table.inside.rows in
     let old = c.in-Some.dialogue.now in
-    let i = c.args.request.now in
     let found : lookup (nat_eq c.args.identifier) ps ≡ Some old = search rules in
-    let o : Outcome = outcome (table_move (asked clock c.args.number) old (DialogueEvent.request (Request.component (invoke_view i)))) in
+    let o : Outcome = outcome (table_move (asked clock c.args.number) old (DialogueEvent.request (Request.component (invoke_view c.args.request.now)))) in
     let none : are_numbers_spent c.args.number ≡ true = let last = c.if-number-eq18446744073709551615.true in grind (arith, nat_tests, last) in
-    let answered : c.unwrap_or.result ≡ unwrap_or c.check_invoke-fault.result fault.NumbersSpent = c.unwrap_or.ensures in
-    let same : to_z w8 (of_z w8 i.id) ≡ i.id = to_z-of_z w8 i.id (search rules) in
-    let refused = spent-refused clock c.args.number old i.id i.class (code_parts i.code) (option_copied i.parameter) i.linked i.timeout_ms c.check_invoke-fault.result none (rw same at (c.check_invoke-fault.ensures c.args.number i.class i.linked)) in
-    rw (answered, ← c.table.view_is, found, (c.get_mut.follows.holds old).entries) (refused-placed o old old c.args.identifier ps found (fault_view (unwrap_or c.check_invoke-fault.result fault.NumbersSpent)) refused)
+    rw (← c.table.view_is, found, (c.get_mut.follows.holds old).entries) (refused-placed o old old c.args.identifier ps found (fault_view c.spent_fault.result) (c.spent_fault.ensures clock c.args.number none))
 
 pub invariant_of-table-2 : goal.invariant_of-table-2
 unfolding table_move
