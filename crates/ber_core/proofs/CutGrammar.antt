@@ -43,10 +43,15 @@ from-same : (f g : List ℕ → Cut) (stream : List ℕ) (r : Result (Parts × L
 from-same f g stream (Ok p) same = ap (with_message p.0.whole) (same p refl)
 from-same f g stream (Err e) same = refl
 
+-- by cases: `rw` would compute the first 65,535 octets of nothing one by one
+none-enough : (n m : ℕ) (stream : List ℕ) → length stream ≤ 0 → cut_by n stream ≡ cut_by m stream
+none-enough n m [] h = none-cut n ∙ sym (none-cut m)
+none-enough n m (b ∷ stream) h = absurd (omega arith)
+
 cut-enough : (n m : ℕ) (stream : List ℕ) → length stream ≤ n → length stream ≤ m → cut_by n stream ≡ cut_by m stream
 unfolding cut_by
-cut-enough zero m stream p q = let e = is-none stream p in rw e (none-cut 0 ∙ sym (none-cut m))
-cut-enough (suc n) zero stream p q = let e = is-none stream q in rw e (none-cut (suc n) ∙ sym (none-cut 0))
+cut-enough zero m stream p q = none-enough zero m stream p
+cut-enough (suc n) zero stream p q = none-enough (suc n) zero stream q
 cut-enough (suc n) (suc m) stream p q =
     from-same (cut_by n) (cut_by m) stream (element_at 32 (front stream)) (λ r is.
     let t = element_takes 32 (front stream) r is in
