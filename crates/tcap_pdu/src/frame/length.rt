@@ -71,6 +71,7 @@ fn portions_len(dialogue: Option<usize>, components: &[u8]) -> Option<usize>
 
 /// The bytes of the contents, with 6B contents of this many bytes in place of its own; `None` where a
 /// part alone is above the limit.
+// One arm for each kind of message, for the reason at `put_identifiers` (put.rt).
 #[inline(always)]
 fn content_len(frame: &Frame<'_>, dialogue: Option<usize>) -> Option<usize>
     ensures some { IfSome result (λ len. (len ≡ content_length dialogue (message frame.now)) × (len < 2 ^ 20)) }

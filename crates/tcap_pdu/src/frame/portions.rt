@@ -26,7 +26,8 @@ impl<'a> Frame<'a> {
     ghost use Rattle.tcap_pdu.specs.FrameViews.{message};
 
     /// The contents of 6B, the dialogue portion, `None` where there is none (Q.773, Dialogue portion).
-    // One arm for each kind of message, for the reason that put.rt gives.
+    // One arm for each kind of message, in `components` too: where one pattern names a part of several, what it binds
+    // is an address, and the message is kept in memory.
     #[inline(always)]
     pub fn dialogue(&self) -> Option<&'a [u8]>
         ensures exact { option_copied result ≡ dialogue_of (message self.now) }
