@@ -1,6 +1,6 @@
 //! Transaction identifiers (Q.773, Transaction ID).
 
-ghost use Rattle.std.specs.Prelude.{◌≡◌, ◌↔◌, ◌≤◌, IsSome, IfSome, length, nat_eq};
+ghost use Rattle.std.specs.Prelude.{◌≡◌, ◌↔◌, ◌<◌, ◌≤◌, IsSome, IfSome, IfNone, length, nat_eq};
 ghost use Rattle.std.specs.Int.{w32, to_be_bytes, from_be_bytes};
 ghost use Rattle.std.specs.Cmp.{partial_equiv_from_equiv};
 ghost use Rattle.std.specs.Cmp.Lexicographic.{pointwise, nat_list_eq_equiv};
@@ -116,8 +116,7 @@ impl TransId {
         ensures found { IsSome result ↔ (length self.now ≡ 4) }
         ensures value { IfSome result (λ number. number ≡ from_be_bytes w32 self.now) }
     {
-        let octets: [u8; 4] = self.octets().try_into().ok()?;
-        Some(u32::from_be_bytes(octets))
+        Some(u32::from_be_bytes(self.four_octets()?))
     }
 
     /// The octets, 1 to 4 (Q.773, Transaction ID).
@@ -132,7 +131,8 @@ impl TransId {
     /// The octets where there are four, as of most identifiers (our own).
     #[inline(always)]
     pub(crate) fn four_octets(&self) -> Option<[u8; MAX_OCTETS]>
-        ensures { IfSome result (λ octets. octets ≡ self.now) }
+        ensures some { IfSome result (λ octets. octets ≡ self.now) }
+        ensures none { IfNone result (length self.now < 4) }
     {
         if usize::from(self.len) == MAX_OCTETS {
             Some(self.octets)
