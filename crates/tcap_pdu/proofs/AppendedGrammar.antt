@@ -7,7 +7,7 @@ use Rattle.ber_core.specs.WrittenLength.{element_length}
 use Rattle.ber_core.proofs.CallerLemmas.{length-written}
 use Rattle.tcap_pdu.specs.DialogueSpelling.{Source, abort_source}
 use Rattle.tcap_pdu.specs.DialogueWritten.{opening_fields, request_fields, result_field, diagnostic_field, response_fields, abort_fields, written_external}
-use Rattle.tcap_pdu.specs.DialogueDue.{information_length, opening_length, answer_length, external_front}
+use Rattle.tcap_pdu.specs.DialogueDue.{information_length, opening_length, answer_length, held_length, external_front}
 use Rattle.tcap_pdu.proofs.DialogueLength.{length-held, length-request, length-response, length-abort}
 
 written_fields-append : (fs gs : List Field) → written_fields (fs ++ gs) ≡ written_fields fs ++ written_fields gs
@@ -44,6 +44,19 @@ two a b c d = append_assoc (a ++ b) c d ∙ append_assoc a b (c ++ d)
 four : (a b c d e f : List ℕ) → ((((a ++ b) ++ c) ++ d) ++ e) ++ f ≡ a ++ (b ++ (c ++ (d ++ (e ++ f))))
 four a b c d e f = append_assoc (((a ++ b) ++ c) ++ d) e f ∙ two (a ++ b) c d (e ++ f) ∙ append_assoc a b (c ++ (d ++ (e ++ f)))
 
+-- a front, head by head
+pub front-appended : (old syntax : List ℕ) (tag n held within : ℕ) → held ≡ held_length n → within ≡ element_length n → (((old ++ written_head (0x28 ∷ []) held) ++ written (0x06 ∷ []) syntax) ++ written_head (0xa0 ∷ []) within) ++ written_head (tag ∷ []) n ≡ old ++ external_front syntax tag n
+unfolding external_front
+front-appended old syntax tag n held within is same =
+    let a = written_head (0x28 ∷ []) held in
+    let s = written (0x06 ∷ []) syntax in
+    let b = written_head (0xa0 ∷ []) within in
+    let t = written_head (tag ∷ []) n in
+    two (old ++ a) s b t
+    ∙ (append_assoc old a (s ++ (b ++ t))
+    ∙ (ap (λ (m : ℕ). old ++ (written_head (0x28 ∷ []) m ++ (s ++ (b ++ t)))) is
+    ∙ ap (λ (m : ℕ). old ++ (written_head (0x28 ∷ []) (held_length n) ++ (s ++ (written_head (0xa0 ∷ []) m ++ t)))) same))
+
 pub request-appended : (old syntax : List ℕ) (tag n : ℕ) (v : Bool) (c i : List ℕ) → length syntax ≡ 7 → n ≡ opening_length (length c) + information_length (length i) → ((old ++ external_front syntax tag n) ++ written_fields (opening_fields v c [])) ++ written_fields (filled 0xbe i ∷ []) ≡ old ++ written_external syntax tag (request_fields v c i)
 request-appended old syntax tag n v c i is len =
     two old (external_front syntax tag n) (written_fields (opening_fields v c [])) (written_fields (filled 0xbe i ∷ []))
@@ -68,6 +81,13 @@ length-three a b c whole e =
     let z = ap length e in
     omega (arith, x, y, z)
 
+length-four : (a b c d whole : List ℕ) → ((a ++ b) ++ c) ++ d ≡ whole → length a + length b + length c + length d ≡ length whole
+length-four a b c d whole e =
+    let x = length-append ((a ++ b) ++ c) d in
+    let y = length-three a b c ((a ++ b) ++ c) refl in
+    let z = ap length e in
+    omega (arith, x, y, z)
+
 length-five : (a b c d e whole : List ℕ) → (((a ++ b) ++ c) ++ d) ++ e ≡ whole → length a + length b + length c + length d + length e ≡ length whole
 length-five a b c d e whole is =
     let x = length-append (((a ++ b) ++ c) ++ d) e in
@@ -82,6 +102,10 @@ room-behind old part new rest cap cap' is room grows =
     let x = ap length is in
     let y = length-append old part in
     omega (arith, x, y, room, grows)
+
+pub front-length : (syntax : List ℕ) (tag n held within : ℕ) → held ≡ held_length n → within ≡ element_length n → length (written_head (0x28 ∷ []) held) + length (written (0x06 ∷ []) syntax) + length (written_head (0xa0 ∷ []) within) + length (written_head (tag ∷ []) n) ≡ length (external_front syntax tag n)
+front-length syntax tag n held within is same =
+    length-four (written_head (0x28 ∷ []) held) (written (0x06 ∷ []) syntax) (written_head (0xa0 ∷ []) within) (written_head (tag ∷ []) n) (external_front syntax tag n) (front-appended [] syntax tag n held within is same)
 
 pub request-length : (syntax : List ℕ) (tag n : ℕ) (v : Bool) (c i : List ℕ) → length syntax ≡ 7 → n ≡ opening_length (length c) + information_length (length i) → length (external_front syntax tag n) + length (written_fields (opening_fields v c [])) + length (written_fields (filled 0xbe i ∷ [])) ≡ length (written_external syntax tag (request_fields v c i))
 request-length syntax tag n v c i is len =
