@@ -74,7 +74,7 @@ abort-appended old syntax tag n b i is len =
 
 -- ---- the room that each part wants
 
-length-three : (a b c whole : List ℕ) → (a ++ b) ++ c ≡ whole → length a + length b + length c ≡ length whole
+pub length-three : (a b c whole : List ℕ) → (a ++ b) ++ c ≡ whole → length a + length b + length c ≡ length whole
 length-three a b c whole e =
     let x = length-append (a ++ b) c in
     let y = length-append a b in

@@ -6,6 +6,7 @@ pub mod DialogueLength
 pub mod DialogueParts
 pub mod DialoguePlaceSteps
 pub mod DueSteps
+pub mod FrameAppended
 pub mod FrameCarrying
 pub mod FrameGrammar
 pub mod FrontGrammar
