@@ -1,5 +1,5 @@
 -- What the messages of a piece make of the cut of a stream.
-use Rattle.std.proofs.Common.{◌≡◌, ◌≢◌, ℕ, List, [], ◌∷◌, ◌++◌, Option, Some, None, refl, sym, ap, ◌∙◌, append_assoc}
+use Rattle.std.proofs.Common.{◌≡◌, ◌≢◌, ℕ, List, [], ◌∷◌, ◌++◌, map, Option, Some, None, refl, sym, ap, ◌∙◌, append_assoc}
 use Rattle.std.proofs.lemmas.List.{append-nil}
 use Rattle.ber_core.specs.declared.fault.FeedFault.{FeedFault}
 use Rattle.ber_core.specs.declared.scanner.Scanner.{Scanner}
@@ -20,6 +20,16 @@ pub record IsTold (begun piece : List ℕ) (told : List (List ℕ)) (s : Scanner
 
 message-after : (told : List (List ℕ)) (message : List ℕ) (cut : Cut) → after_messages told (with_message message cut) ≡ after_messages (told ++ (message ∷ [])) cut
 message-after told message cut = ap (λ (ms : List (List ℕ)). cut_into ms cut.rest cut.fault) (sym (append_assoc told (message ∷ []) cut.messages))
+
+module _ {X : Type 0} (f : X → List ℕ) where
+  map-one : (xs : List X) (x : X) → map f (xs ++ (x ∷ [])) ≡ map f xs ++ (f x ∷ [])
+  map-one [] x = refl
+  map-one (y ∷ xs) x = ap (λ (told : List (List ℕ)). f y ∷ told) (map-one xs x)
+
+  -- what is told once one more is pushed
+  pub map-pushed : (xs ys zs : List X) (x : X) (message : List ℕ) → zs ≡ ys ++ (x ∷ []) → ys ≡ xs → f x ≡ message → map f zs ≡ map f xs ++ (message ∷ [])
+  map-pushed xs ys zs x message p q e =
+      ap (map f) (p ∙ ap (λ (ws : List X). ws ++ (x ∷ [])) q) ∙ (map-one xs x ∙ ap (λ (w : List ℕ). map f xs ++ (w ∷ [])) e)
 
 not-empty : (told : List (List ℕ)) (message : List ℕ) (more : List (List ℕ)) → told ++ (message ∷ more) ≢ []
 not-empty [] message more e = absurd cc
