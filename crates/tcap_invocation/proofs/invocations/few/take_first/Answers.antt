@@ -1,4 +1,5 @@
 use Rattle.std.proofs.Common.{◌≡◌, ◌∙◌, ◌+◌, refl, ap, sym, rules, arith, length, slice_get, Some, to_z, of_z}
+use Rattle.std.proofs.lemmas.Grind.{elements}
 use Rattle.std.proofs.lemmas.Int.{to_z-of_z}
 use Rattle.std.proofs.lemmas.Option.{slice_get_read}
 use Rattle.std.specs.Int.{w8}
@@ -47,3 +48,15 @@ returns-else-first-len-clause-rows g c =
     let same : r ≡ some.2.row = some-same r some.2.row (sym read ∙ some.2.at) in
     let id : to_z w8 (of_z w8 r.0) ≡ r.0 = to_z-of_z w8 r.0 (search rules) in
     c.remove.ensures.items ∙ gone.1 ∙ ap (without rows) (sym (id ∙ ap (λ (y : Row). y.0) same))
+
+pub index-requires : goal.index-requires
+index-requires g c = grind (arith, elements)
+
+pub overflow_add-first : goal.overflow_add-first
+overflow_add-first g c = grind (arith, elements)
+
+pub remove-requires : goal.remove-requires
+remove-requires g c = grind (arith, elements)
+
+pub returns-then-first-len-clause-lapse : goal.returns-then-first-len-clause-lapse
+returns-then-first-len-clause-lapse g c = grind (arith, elements)
