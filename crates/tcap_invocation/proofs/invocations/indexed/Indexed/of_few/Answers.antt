@@ -1,4 +1,5 @@
 use Rattle.std.proofs.Common.{◌≡◌, ◌∙◌, ◌<◌, ap, sym, rules, tests, arith, pos, length, get_or, take, List, ◌++◌, ◌∷◌, []}
+use Rattle.std.proofs.lemmas.Grind.{common_steps}
 use Rattle.std.proofs.lemmas.List.{take_more}
 use Rattle.tcap_invocation.specs.declared.class.Class.TheVariants.{One}
 use Rattle.tcap_invocation.specs.declared.stage.Stage.TheVariants.{Queued}
@@ -40,3 +41,9 @@ loop-id-preserved g c =
           ∙ sym (timers-at rows i no_row within c.requires) ∙ ap timers_at (sym (new ∙ before));
       room = omega (arith, room, more);
     }
+
+pub invariant_of-result : goal.invariant_of-result
+invariant_of-result g c = grind (arith, common_steps)
+
+pub returns : goal.returns
+returns g c = grind (arith, common_steps)
