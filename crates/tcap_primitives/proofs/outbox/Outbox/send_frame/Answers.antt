@@ -1,4 +1,5 @@
-use Rattle.std.proofs.Common.{◌++◌, ◌∙◌, ap}
+use Rattle.std.proofs.Common.{◌++◌, ◌∙◌, ap, arith}
+use Rattle.std.proofs.lemmas.Grind.{common_steps, elements}
 use Rattle.tcap_primitives.proofs.OutboxRecords.{all_fit_sent, all_read_sent}
 use Rattle.tcap_primitives.proofs.outbox.Outbox.send_frame.Goals as goal
 
@@ -19,3 +20,9 @@ returns-clause-ok g c =
     (c.keep-to.ensures.items ∙ ap (λ o. o ++ c.args.to.now) c.make_room.ensures.items)
     c.keep_frame-bytes.ensures.items c.push_reserved.ensures.items c.self.invariant.0
     (ap (λ v. v.outputs) c.self.view_is) c.keep-to.ensures.fits c.keep-to.ensures.reads c.keep_frame-bytes.ensures.reads
+
+pub invariant_of-self : goal.invariant_of-self
+invariant_of-self g c = grind (arith, elements)
+
+pub returns-clause-places : goal.returns-clause-places
+returns-clause-places g c = grind (arith, common_steps)

@@ -1,4 +1,5 @@
-use Rattle.std.proofs.Common.{◌≡◌, None, true, false, not, sym, ap, slice_index_or}
+use Rattle.std.proofs.Common.{◌≡◌, None, true, false, not, sym, ap, arith, slice_index_or}
+use Rattle.std.proofs.lemmas.Grind.{common_steps}
 use Rattle.tcap_primitives.specs.declared.queue.Part.{Part}
 use Rattle.tcap_primitives.proofs.CancelLemmas.{stays, holds-moved, holds-passed}
 use Rattle.tcap_primitives.proofs.queue.cancel.remove_octets.Goals as goal
@@ -18,3 +19,9 @@ loop-part-preserved g c =
           let next = holds-passed c.args.number c.args.parts.now c.args.octets.now.items c.loop-part.octets.items c.loop-part.part-index c.loop-part.kept c.loop-part.from none c.loop-part-test.true go c.loop-part.invariant in
           rw (w.octets-is, w.kept-is) next
     ]
+
+pub copy_within-requires : goal.copy_within-requires
+copy_within-requires g c = grind (arith, common_steps)
+
+pub returns : goal.returns
+returns g c = grind (arith, common_steps)
