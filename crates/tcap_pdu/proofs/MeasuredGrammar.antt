@@ -1,7 +1,7 @@
 -- A message that is measured: its lengths, by those of its parts.
 use Rattle.std.proofs.Common.{◌≡◌, ℕ, ◌<◌, ◌≤◌, Option, Some, None, length, option_map, refl, sym, ◌∙◌, arith}
 use Rattle.std.specs.Prelude.{IfNone}
-use Rattle.tcap_pdu.specs.declared.frame.measured.MessageLength.{MessageLength}
+use Rattle.tcap_pdu.specs.declared.frame.length.MessageLength.{MessageLength}
 use Rattle.tcap_pdu.specs.DialogueDue.{portion_length}
 use Rattle.tcap_pdu.specs.DialogueSpelling.{PduValue}
 use Rattle.tcap_pdu.specs.FrameLength.{content_length, dialogue_of, frame_length, element_length}

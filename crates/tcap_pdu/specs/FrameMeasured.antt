@@ -1,7 +1,7 @@
 -- How long a message is that is written with the dialogue portion of a PDU, or as it is.
 use Rattle.std.specs.Prelude.{◌≡◌, ◌≤◌, ℕ, Option, Some, None, length}
 use Rattle.ber_core.specs.Written.{written_fields}
-use Rattle.tcap_pdu.specs.declared.frame.measured.MessageLength.{MessageLength}
+use Rattle.tcap_pdu.specs.declared.frame.length.MessageLength.{MessageLength}
 use Rattle.tcap_pdu.specs.DialogueSpelling.{PduValue}
 use Rattle.tcap_pdu.specs.DialogueWritten.{written_dialogue}
 use Rattle.tcap_pdu.specs.FrameLength.{with_dialogue}

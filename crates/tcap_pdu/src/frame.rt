@@ -1,21 +1,18 @@
 //! The five messages of the transaction sublayer (Q.773, Structure of TC messages).
 
-mod append;
 mod carry;
 mod front;
 mod length;
-mod measured;
 mod portions;
 mod put;
 mod read;
 mod write;
 
 use crate::trans_id::TransId;
-pub use append::{append_frame, append_message};
 pub use carry::write_frame_with;
 pub use front::front_ids;
-pub use length::{MAX_MESSAGE, frame_fits};
-pub use measured::{MessageLength, message_length, own_length};
+pub use length::{MAX_MESSAGE, MessageLength, frame_fits, message_length, own_length};
+pub use put::{append_frame, append_message};
 pub use read::read_frame;
 pub use write::write_frame;
 

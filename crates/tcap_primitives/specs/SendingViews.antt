@@ -8,7 +8,7 @@ use Rattle.tcap_pdu.specs.DialogueViews.{pdu_value}
 use Rattle.tcap_pdu.specs.DialogueWritten.{HasDiagnostic, written_dialogue}
 use Rattle.tcap_pdu.specs.FrameMeasured.{IsMeasured}
 use Rattle.tcap_pdu.specs.FrameSpelling.{Message, Reason}
-use Rattle.tcap_pdu.specs.declared.frame.measured.MessageLength.{MessageLength}
+use Rattle.tcap_pdu.specs.declared.frame.length.MessageLength.{MessageLength}
 use Rattle.tcap_model.specs.Procedures.Refusals.{can_name}
 use Rattle.tcap_model.specs.Words.LocalId.{local_id}
 use Rattle.tcap_primitives.specs.declared.sending.MessageParts.{MessageParts}

@@ -12,8 +12,8 @@ ghost use Rattle.tcap_pdu.specs.FrameViews.{message};
 ghost use Rattle.tcap_pdu.specs.FrameWritten.{IsWriteFault, message_limit, written_frame};
 
 use super::Frame;
-use super::append::append_message;
-use super::measured::{MessageLength, carrying_length};
+use super::length::{MessageLength, carrying_length};
+use super::put::append_message;
 use super::write::MAX_HEAD;
 use crate::dialogue_pdu::DialoguePdu;
 use crate::fault::PduFault;

@@ -8,8 +8,8 @@ ghost use Rattle.tcap_pdu.specs.FrameWritten.{IsWriteFault, message_limit, writt
 ghost use Rattle.tcap_pdu.specs.FrameViews.{message};
 
 use super::Frame;
-use super::append::append_message;
-use super::measured::{MessageLength, own_length};
+use super::length::{MessageLength, own_length};
+use super::put::append_message;
 use crate::fault::PduFault;
 use ber_core::OutOfMemory;
 use std::alloc::Allocator;

@@ -4,7 +4,7 @@ use Rattle.tcap_pdu.specs.DialogueWritten.{written_dialogue}
 use Rattle.tcap_pdu.specs.FrameViews.{message}
 use Rattle.tcap_pdu.proofs.DialogueLength.{length-dialogue}
 use Rattle.tcap_pdu.proofs.FrameCarrying.{held-within}
-use Rattle.tcap_pdu.proofs.frame.append.put_carried.Goals as goal
+use Rattle.tcap_pdu.proofs.frame.put.put_carried.Goals as goal
 
 pub put_portion-requires-clause-short : goal.put_portion-requires-clause-short
 put_portion-requires-clause-short g c =

@@ -1,7 +1,7 @@
 use Rattle.std.proofs.Common.{refl}
 use Rattle.tcap_pdu.specs.FrameViews.{message}
 use Rattle.tcap_pdu.proofs.MeasuredGrammar.{own-above, own-measured}
-use Rattle.tcap_pdu.proofs.frame.measured.own_length.Goals as goal
+use Rattle.tcap_pdu.proofs.frame.length.own_length.Goals as goal
 
 pub returns-in_err-contents-clause-none : goal.returns-in_err-contents-clause-none
 returns-in_err-contents-clause-none c =

@@ -3,7 +3,7 @@ use Rattle.tcap_pdu.specs.DialogueViews.{pdu_value}
 use Rattle.tcap_pdu.specs.FrameViews.{message}
 use Rattle.tcap_pdu.proofs.FrameCarrying.{context-good}
 use Rattle.tcap_pdu.proofs.MeasuredGrammar.{carrying-above, carrying-measured}
-use Rattle.tcap_pdu.proofs.frame.measured.carrying_length.Goals as goal
+use Rattle.tcap_pdu.proofs.frame.length.carrying_length.Goals as goal
 
 pub portion_len-dialogue-requires : goal.portion_len-dialogue-requires
 portion_len-dialogue-requires c = context-good (pdu_value c.args.pdu.now) c.requires

@@ -11,8 +11,8 @@ use Rattle.tcap_pdu.specs.FrameViews.{message}
 use Rattle.tcap_pdu.proofs.AppendedGrammar.{room-behind}
 use Rattle.tcap_pdu.proofs.FrameAppended.{message-appended, message-room}
 use Rattle.tcap_pdu.proofs.FrameCarrying.{context-good}
-use Rattle.tcap_pdu.proofs.frame.append.append_message.Goals as goal
-use Rattle.tcap_pdu.proofs.frame.append.append_message.Goals.{in-None, in-Some}
+use Rattle.tcap_pdu.proofs.frame.put.append_message.Goals as goal
+use Rattle.tcap_pdu.proofs.frame.put.append_message.Goals.{in-None, in-Some}
 
 pub put_front-requires-clause-room : goal.put_front-requires-clause-room
 put_front-requires-clause-room g c =

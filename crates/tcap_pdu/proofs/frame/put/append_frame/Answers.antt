@@ -8,7 +8,7 @@ use Rattle.tcap_pdu.specs.FrameSpelling.{message_tag}
 use Rattle.tcap_pdu.specs.FrameViews.{message}
 use Rattle.tcap_pdu.proofs.AppendedGrammar.{room-behind}
 use Rattle.tcap_pdu.proofs.FrameAppended.{frame-appended, frame-room}
-use Rattle.tcap_pdu.proofs.frame.append.append_frame.Goals as goal
+use Rattle.tcap_pdu.proofs.frame.put.append_frame.Goals as goal
 
 pub put_front-requires-clause-room : goal.put_front-requires-clause-room
 put_front-requires-clause-room g c =
