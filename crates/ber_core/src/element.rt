@@ -5,7 +5,7 @@ ghost use Rattle.ber_core.specs.Tag.{is_constructor};
 
 mod read;
 
-pub use read::read_element;
+pub use read::{MAX_DEPTH, read_element};
 
 /// An element and its parts (X.690, Structure of an encoding).
 #[derive(Clone, Copy, Debug, PartialEq, Eq)]

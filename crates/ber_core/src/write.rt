@@ -7,8 +7,7 @@ ghost use Rattle.ber_core.specs.Tag.{IsTag};
 ghost use Rattle.ber_core.specs.Written.{written_head, written};
 
 use crate::fault::OutOfMemory;
-use crate::put::{push_each, put_length};
-use crate::written_len::length_len;
+use crate::put::{length_len, push_each, put_length};
 use std::alloc::Allocator;
 
 /// The most octets that are appended one by one.

@@ -9,9 +9,9 @@ ghost use Rattle.ber_core.specs.Due.{CanBeDue};
 
 use super::Scanner;
 use super::due::Due;
+use crate::element::MAX_DEPTH;
 use crate::fault::BerFault;
 use crate::head::{MAX_FURTHER, MAX_LENGTH};
-use crate::scan::MAX_DEPTH;
 
 /// The scanner where this is due and so many indefinite elements are open.
 #[inline(always)]

@@ -7,8 +7,8 @@ ghost use Rattle.ber_core.specs.Scanning.{goes_on, goes_on_or, outer_at, at_tag}
 use super::Scanner;
 use super::due::Due;
 use super::octet::behind_element;
+use crate::element::MAX_DEPTH;
 use crate::head::{is_plain, read_head};
-use crate::scan::MAX_DEPTH;
 
 /// Whether an indefinite element begins with a tag of this one octet and this length.
 #[inline(always)]

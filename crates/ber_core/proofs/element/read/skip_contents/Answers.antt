@@ -2,7 +2,7 @@ use Rattle.std.proofs.Common.{◌≡◌, ℕ, ◌++◌, List}
 use Rattle.std.proofs.lemmas.Result.{err_from_is_err_and}
 use Rattle.ber_core.specs.Scanning.{goes_on}
 use Rattle.ber_core.proofs.ScanSteps.{inside-fault, inside-end, inside-short, contents-longer}
-use Rattle.ber_core.proofs.scan.skip_contents.Goals as goal
+use Rattle.ber_core.proofs.element.read.skip_contents.Goals as goal
 
 pub returns-in_err-rest-clause-value : goal.returns-in_err-rest-clause-value
 returns-in_err-rest-clause-value c =
