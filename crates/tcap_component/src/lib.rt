@@ -13,7 +13,8 @@ mod tag;
 
 pub use component::append::append_component;
 pub use component::length::{component_fault, component_len, judge_component};
-pub use component::read::{read_component, read_short_invoke, read_short_result};
+pub use component::parts::{read_short_invoke, read_short_result};
+pub use component::read::read_component;
 pub use component::reject::{MAX_REJECT, reject_octets};
 pub use component::take::take_component;
 pub use component::write::write_component;

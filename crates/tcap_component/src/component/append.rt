@@ -12,7 +12,7 @@ ghost use Rattle.tcap_component.specs.Views.{code_parts, body_parts, problem_par
 ghost use Rattle.tcap_component.specs.Written.{written_body, written_contents, written_component, coded_part, CanCode, HasCode, CanWriteComponent};
 
 use crate::component::length::{body_len, contents_len};
-use crate::component::parts::tag_of;
+use crate::component::reject::tag_of;
 use crate::component::write::tag_of_component;
 use crate::component::{Body, Code, Component};
 use crate::problem::Problem;

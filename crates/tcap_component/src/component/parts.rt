@@ -1,21 +1,22 @@
-//! The parts of components, each by its line of the table in Q.773.
+//! The parts of components, each by its line of the table in Q.773, and the two components that come most, of few octets.
 
-ghost use Rattle.std.specs.Prelude.{◌≡◌, ◌==◌, ℕ, [], ◌∷◌, false, Some, option_copied, IfSome};
+ghost use Rattle.std.specs.Prelude.{◌≡◌, ◌==◌, ◌+◌, ◌<◌, ◌≤◌, ◌↔◌, ℕ, [], ◌∷◌, false, get_or, is_some, length, Ok, Some, option_copied, IfSome, IsOk, IsTrue};
 ghost use Rattle.std.specs.Option.{option_map};
 ghost use Rattle.ber_core.specs.Options.{◌>>=◌ as bound};
 ghost use Rattle.ber_core.specs.Place.{AtEnd};
 ghost use Rattle.ber_core.specs.SequenceReading.{tagged, content_at};
 ghost use Rattle.ber_core.specs.Way.{GoesOn};
-ghost use Rattle.tcap_component.specs.Place.{CodeOnWay, CodedOnWay, BodyOnWay};
-ghost use Rattle.tcap_component.specs.Problem.{problem_tag};
+ghost use Rattle.tcap_component.specs.declared.component.Component.TheVariants as component;
+ghost use Rattle.tcap_component.specs.Place.{CodeOnWay, CodedOnWay, BodyOnWay, ComponentInPlace};
+ghost use Rattle.tcap_component.specs.Component.{InRange};
 ghost use Rattle.tcap_component.specs.Component.ComponentParts.{invoke};
-ghost use Rattle.tcap_component.specs.ComponentReading.{identifier_of, identifier_at, linked_at, global_from, code_at, body_at, invoke_at, result_at, rejected_at, problem_kind, problem_code, problem_at};
-ghost use Rattle.tcap_component.specs.Views.{code_parts, body_parts, problem_parts};
+ghost use Rattle.tcap_component.specs.ComponentReading.{identifier_of, identifier_at, linked_at, global_from, code_at, body_at, invoke_at, result_at, component_at};
+ghost use Rattle.tcap_component.specs.Views.{code_parts, body_parts, component_parts};
+ghost use Rattle.tcap_component.specs.Written.{HasParts};
 
 use crate::component::{Body, Code};
-use crate::problem::{Kind, Problem};
 use crate::tag;
-use ber_core::{is_oid, read_int, take_any, take_content, take_tagged};
+use ber_core::{is_oid, read_int, take_any, take_content, take_short, take_tagged};
 
 /// The identifier that one octet is.
 #[tactic(auto, unfolding(crate::specs::ComponentReading::identifier_of))]
@@ -181,61 +182,47 @@ fn read_any_result<'a>(bytes: &'a [u8]) -> Option<(i8, Option<Body<'a>>)>
     Some((id, body))
 }
 
-/// 02 identifier or 05 with nothing, and what follows it.
-#[tactic(auto, unfolding(crate::specs::ComponentReading::rejected_at))]
-pub(crate) fn take_rejected(bytes: &[u8]) -> Option<(Option<i8>, &[u8])>
-    ensures { option_map (λ r. (r.0, r.1.now)) result ≡ rejected_at bytes.now }
+/// Reads the first component, where it is a Return Result Last whose length is one octet below 128: its identifier, its
+/// operation code with the parameter, and what follows it, as `read_component` reads them. Nothing where it is another,
+/// or where it can't be read: `read_component` says what stands there. Q.773, component portion.
+// Most components are short results and Invokes. The tag then says the form, and contents that are read whole are a
+// list of elements: nothing is left to be judged. A caller asks for these two first, and takes the others by
+// `read_component`, a call: where that was inlined, places for all that it answers were cleared for each component, 22
+// to 62 instructions a step.
+#[inline(always)]
+pub fn read_short_result<'a>(bytes: &'a [u8]) -> Option<(i8, Option<Body<'a>>, &'a [u8])>
+    // Exactly where the tag and such a length stand first, the content is whole, and a component is read.
+    ensures found { IsTrue (is_some result) ↔ ((get_or bytes.now 0 0 ≡ 0xa2) × (get_or bytes.now 1 0 < 0x80)
+        × (2 + get_or bytes.now 1 0 ≤ length bytes.now) × IsOk (component_at bytes.now)) }
+    // What is read is the first component, and what follows it.
+    ensures exact { IfSome result (λ r. component_at bytes.now
+        ≡ Ok (component_parts (component.ResultLast r.0 r.1), r.2.now)) }
+    ensures writable { IfSome result (λ r. HasParts (component_parts (component.ResultLast r.0 r.1))
+        × InRange (component_parts (component.ResultLast r.0 r.1))) }
+    ensures place { IfSome result (λ r. ComponentInPlace (component.ResultLast r.0 r.1) bytes.entry
+        × AtEnd r.2 bytes.entry) }
 {
-    if let (Some(content), rest) = take_tagged(bytes, tag::INTEGER) {
-        let id = identifier(content)?;
-        return Some((Some(id), rest));
-    }
-    let (content, rest) = take_content(bytes, tag::NULL)?;
-    if !content.is_empty() {
-        return None;
-    }
-    Some((None, rest))
+    let (content, rest) = take_short(bytes, tag::RETURN_RESULT_LAST)?;
+    let (id, body) = read_result(content)?;
+    Some((id, body, rest))
 }
 
-/// The kind of problem that the first octet is the tag of.
-#[tactic(auto, unfolding(crate::specs::ComponentReading::problem_kind))]
-fn kind_of(bytes: &[u8]) -> Option<Kind>
-    ensures { result ≡ problem_kind bytes.now }
+/// `read_short_result`, of an Invoke: its identifier, the one it is linked to, its operation code with the parameter,
+/// and what follows it. Q.773, component portion.
+#[inline(always)]
+pub fn read_short_invoke<'a>(bytes: &'a [u8]) -> Option<(i8, Option<i8>, Body<'a>, &'a [u8])>
+    // Exactly where the tag and such a length stand first, the content is whole, and a component is read.
+    ensures found { IsTrue (is_some result) ↔ ((get_or bytes.now 0 0 ≡ 0xa1) × (get_or bytes.now 1 0 < 0x80)
+        × (2 + get_or bytes.now 1 0 ≤ length bytes.now) × IsOk (component_at bytes.now)) }
+    // What is read is the first component, and what follows it.
+    ensures exact { IfSome result (λ r. component_at bytes.now
+        ≡ Ok (component_parts (component.Invoke r.0 r.1 r.2.code r.2.parameter), r.3.now)) }
+    ensures writable { IfSome result (λ r. HasParts (component_parts (component.Invoke r.0 r.1 r.2.code r.2.parameter))
+        × InRange (component_parts (component.Invoke r.0 r.1 r.2.code r.2.parameter))) }
+    ensures place { IfSome result (λ r. ComponentInPlace (component.Invoke r.0 r.1 r.2.code r.2.parameter) bytes.entry
+        × AtEnd r.3 bytes.entry) }
 {
-    match bytes {
-        [tag::GENERAL_PROBLEM, ..] => Some(Kind::General),
-        [tag::INVOKE_PROBLEM, ..] => Some(Kind::Invoke),
-        [tag::RETURN_RESULT_PROBLEM, ..] => Some(Kind::Result),
-        [tag::RETURN_ERROR_PROBLEM, ..] => Some(Kind::Error),
-        _ => None,
-    }
-}
-
-/// The tag of a problem of this kind.
-pub(crate) fn tag_of(kind: Kind) -> u8
-    ensures { result ≡ problem_tag kind }
-{
-    match kind {
-        Kind::General => tag::GENERAL_PROBLEM,
-        Kind::Invoke => tag::INVOKE_PROBLEM,
-        Kind::Result => tag::RETURN_RESULT_PROBLEM,
-        Kind::Error => tag::RETURN_ERROR_PROBLEM,
-    }
-}
-
-/// 80, 81, 82 or 83 with a problem's code, 00 to 7F.
-#[tactic(auto, unfolding(crate::specs::ComponentReading::problem_at, crate::specs::ComponentReading::problem_code))]
-pub(crate) fn read_problem(bytes: &[u8]) -> Option<Problem>
-    ensures { option_map problem_parts result ≡ problem_at bytes.now }
-{
-    let kind = kind_of(bytes)?;
-    let (content, rest) = take_content(bytes, tag_of(kind))?;
-    let [code] = content else {
-        return None;
-    };
-    let problem = Problem::new(kind, *code)?;
-    if !rest.is_empty() {
-        return None;
-    }
-    Some(problem)
+    let (content, rest) = take_short(bytes, tag::INVOKE)?;
+    let (id, linked, body) = read_invoke_fields(content)?;
+    Some((id, linked, body, rest))
 }

@@ -1,12 +1,11 @@
 //! Components read, each by its line of the table in Q.773, and the faults.
 
-ghost use Rattle.std.specs.Prelude.{◌≡◌, ◌+◌, ◌<◌, ◌≤◌, ◌↔◌, ℕ, List, [], ◌++◌, get_or, is_some, length, Ok, IfSome, IfOk, IfErr, IsOk, IsOkAnd, IsTrue, if◌then◌else◌};
+ghost use Rattle.std.specs.Prelude.{◌≡◌, List, ℕ, [], ◌++◌, IfSome, IfOk, IfErr, IsOkAnd, if◌then◌else◌};
 ghost use Rattle.std.specs.Option.{option_map};
 ghost use Rattle.ber_core.specs.Results.{Gives};
 ghost use Rattle.ber_core.specs.Place.{AtEnd};
 ghost use Rattle.ber_core.specs.Tag.{is_constructor};
 ghost use Rattle.ber_core.specs.Views.{parts};
-ghost use Rattle.tcap_component.specs.declared.component.Component.TheVariants as component;
 ghost use Rattle.tcap_component.specs.Place.{FieldsOnWay, ComponentInPlace};
 ghost use Rattle.tcap_component.specs.Problem.{IsProblem, general_problem};
 ghost use Rattle.tcap_component.specs.Component.{ComponentParts, InRange, SpellsComponent};
@@ -16,9 +15,9 @@ ghost use Rattle.tcap_component.specs.Written.{HasParts};
 ghost use Rattle.tcap_component.specs.Views.{Reads, fault_parts, component_parts};
 
 use crate::component::parts::{
-    identifier, read_body, read_invoke_fields, read_problem, read_result, take_identifier,
-    take_rejected,
+    identifier, read_body, read_invoke_fields, read_result, take_identifier,
 };
+use crate::component::reject::{read_problem, take_rejected};
 use crate::component::{Body, Component, Form};
 use crate::fault::ComponentFault;
 use crate::problem::Problem;
@@ -26,7 +25,7 @@ use crate::problem::general_problem::{
     BADLY_STRUCTURED_COMPONENT, MISTYPED_COMPONENT, UNRECOGNIZED_COMPONENT,
 };
 use crate::tag;
-use ber_core::{Element, is_element_list, read_element, take_any, take_short, take_tagged};
+use ber_core::{Element, is_element_list, read_element, take_any, take_tagged};
 
 /// Invoke: 02 identifier, [80 linked identifier], code, [parameter].
 // A call of its own, so that `split_component` is small enough for the toolchain to inline.
@@ -224,51 +223,6 @@ pub(crate) fn split_component<'a>(
         Ok(component) => Ok((component, rest)),
         Err(code) => Err(general_fault(code, front_id(&element), bytes)),
     }
-}
-
-/// Reads the first component, where it is a Return Result Last whose length is one octet below 128: its identifier, its
-/// operation code with the parameter, and what follows it, as `read_component` reads them. Nothing where it is another,
-/// or where it can't be read: `read_component` says what stands there. Q.773, component portion.
-// Most components are short results and Invokes. The tag then says the form, and contents that are read whole are a
-// list of elements: nothing is left to be judged. A caller asks for these two first, and takes the others by
-// `read_component`, a call: where that was inlined, places for all that it answers were cleared for each component, 22
-// to 62 instructions a step.
-#[inline(always)]
-pub fn read_short_result<'a>(bytes: &'a [u8]) -> Option<(i8, Option<Body<'a>>, &'a [u8])>
-    // Exactly where the tag and such a length stand first, the content is whole, and a component is read.
-    ensures found { IsTrue (is_some result) ↔ ((get_or bytes.now 0 0 ≡ 0xa2) × (get_or bytes.now 1 0 < 0x80)
-        × (2 + get_or bytes.now 1 0 ≤ length bytes.now) × IsOk (component_at bytes.now)) }
-    // What is read is the first component, and what follows it.
-    ensures exact { IfSome result (λ r. component_at bytes.now
-        ≡ Ok (component_parts (component.ResultLast r.0 r.1), r.2.now)) }
-    ensures writable { IfSome result (λ r. HasParts (component_parts (component.ResultLast r.0 r.1))
-        × InRange (component_parts (component.ResultLast r.0 r.1))) }
-    ensures place { IfSome result (λ r. ComponentInPlace (component.ResultLast r.0 r.1) bytes.entry
-        × AtEnd r.2 bytes.entry) }
-{
-    let (content, rest) = take_short(bytes, tag::RETURN_RESULT_LAST)?;
-    let (id, body) = read_result(content)?;
-    Some((id, body, rest))
-}
-
-/// `read_short_result`, of an Invoke: its identifier, the one it is linked to, its operation code with the parameter,
-/// and what follows it. Q.773, component portion.
-#[inline(always)]
-pub fn read_short_invoke<'a>(bytes: &'a [u8]) -> Option<(i8, Option<i8>, Body<'a>, &'a [u8])>
-    // Exactly where the tag and such a length stand first, the content is whole, and a component is read.
-    ensures found { IsTrue (is_some result) ↔ ((get_or bytes.now 0 0 ≡ 0xa1) × (get_or bytes.now 1 0 < 0x80)
-        × (2 + get_or bytes.now 1 0 ≤ length bytes.now) × IsOk (component_at bytes.now)) }
-    // What is read is the first component, and what follows it.
-    ensures exact { IfSome result (λ r. component_at bytes.now
-        ≡ Ok (component_parts (component.Invoke r.0 r.1 r.2.code r.2.parameter), r.3.now)) }
-    ensures writable { IfSome result (λ r. HasParts (component_parts (component.Invoke r.0 r.1 r.2.code r.2.parameter))
-        × InRange (component_parts (component.Invoke r.0 r.1 r.2.code r.2.parameter))) }
-    ensures place { IfSome result (λ r. ComponentInPlace (component.Invoke r.0 r.1 r.2.code r.2.parameter) bytes.entry
-        × AtEnd r.3 bytes.entry) }
-{
-    let (content, rest) = take_short(bytes, tag::INVOKE)?;
-    let (id, linked, body) = read_invoke_fields(content)?;
-    Some((id, linked, body, rest))
 }
 
 /// Reads the first component, and gives what follows it. A component that can't be read has the

@@ -6,7 +6,7 @@ use Rattle.tcap_component.specs.ComponentReading.{form_at, result_last_at}
 use Rattle.tcap_component.proofs.ComponentGrammar.{component_here, none_here}
 use Rattle.tcap_component.proofs.PlaceSteps.{body-in}
 use Rattle.tcap_component.proofs.SpelledWritable.{writable}
-use Rattle.tcap_component.proofs.component.read.read_short_result.Goals as goal
+use Rattle.tcap_component.proofs.component.parts.read_short_result.Goals as goal
 
 pub returns-clause-exact : goal.returns-clause-exact
 unfolding form_at result_last_at
