@@ -4,10 +4,8 @@
 //! Begin at `Table`.
 #![tactic(auto)]
 
-mod due;
 mod insertion;
 mod keys;
 mod table;
 
-pub use due::DueRows;
-pub use table::Table;
+pub use table::{DueRows, Table};

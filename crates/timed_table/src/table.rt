@@ -7,14 +7,13 @@ ghost use Rattle.std.specs.Map.{lookup, remove_entry};
 ghost use Rattle.timed_table.specs.Row.{AllBelow, IsRising, HasNoTime, IsFirst, entries_of, row_of, time_in, with_time, without, due_values};
 ghost use Rattle.timed_table.specs.Tied.{timer_named, IsSound, all_rows};
 
-use crate::due::DueRows;
 use crate::insertion::insert_row;
 use crate::keys::Keys;
 use slab::Slab;
 use std::alloc::{AllocFailed, Allocator, Global};
 use std::fmt;
 use std::marker::Model;
-use timer_queue::{Timer, TimerQueue};
+use timer_queue::{Due, Timer, TimerQueue};
 
 /// Values under identifiers, which rise as they are inserted; beside each value a time, if it has one.
 #[derive(Drop)]
@@ -188,6 +187,49 @@ impl<T: Drop + fmt::Debug, A: Allocator + Copy> fmt::Debug for Table<T, A> {
             rows.entry(id, &self.values.get(*key));
         }
         rows.finish()
+    }
+}
+
+/// The values whose times are due at a moment, each once; `Table::due` makes it.
+#[derive(Drop)]
+pub struct DueRows<'a, T: Drop, A: Allocator + Copy = Global> {
+    keys: Due<'a>,
+    values: &'a Slab<T, A>,
+}
+
+impl<'a, T: Drop, A: Allocator + Copy> DueRows<'a, T, A> {
+    ghost use Rattle.std.specs.Prelude.{◌≡◌, filter_map};
+    ghost use Rattle.slab.specs.Slab.{get};
+    ghost use Rattle.timer_queue.specs.Due.{due_left};
+    ghost use Rattle.timed_table.specs.Due.{due_rows_left};
+
+    /// The values at these keys.
+    #[inline(always)]
+    fn new(keys: Due<'a>, values: &'a Slab<T, A>) -> Self
+        ensures { due_rows_left result ≡ filter_map (get values.now) (due_left keys.entry) }
+    {
+        DueRows { keys, values }
+    }
+}
+
+impl<'a, T: Drop, A: Allocator + Copy> Iterator for DueRows<'a, T, A> {
+    ghost use Rattle.std.specs.Iterator.{item_count, YieldsFirstRef};
+    ghost use Rattle.timed_table.specs.Due.{due_rows_left};
+
+    type Item = &'a T;
+
+    ghost next_gives = { YieldsFirstRef due_rows_left };
+
+    ghost remaining = { item_count due_rows_left };
+
+    #[inline(always)]
+    fn next(&mut self) -> Option<&'a T> {
+        while let Some(key) = self.keys.next() {
+            if let Some(value) = self.values.get(key) {
+                return Some(value);
+            }
+        }
+        None
     }
 }
 
