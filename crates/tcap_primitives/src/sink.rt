@@ -98,17 +98,18 @@ impl<'m, A: Allocator + Copy> Sink<'m, A, ToVector> {
 }
 
 impl<'m, A: Allocator + Copy> Sink<'m, A, ToOutbox> {
-    /// This outbox.
+    /// What this outbox holds and has room for. Until `put_back` an empty one without room stands in its place.
     #[inline(always)]
-    pub fn outbox(alloc: A, outbox: Outbox<A>) -> Self
-        ensures outputs { result.outputs ≡ outbox.outputs }
+    pub fn take_outbox(alloc: A, place: &mut Outbox<A>) -> Self
+        ensures outputs { result.outputs ≡ place.old.outputs }
         ensures slices { result.slices ≡ [] }
-        ensures places { result.places ≡ outbox.places }
-        ensures octets { result.octets ≡ outbox.octets }
+        ensures places { result.places ≡ place.old.places }
+        ensures octets { result.octets ≡ place.old.octets }
+        ensures left { (place.new.outputs ≡ []) × (place.new.places ≡ 0) × (place.new.octets ≡ 0) }
     {
         Sink {
             vector: Vec::new(alloc),
-            outbox,
+            outbox: mem::replace(place, Outbox::new(alloc)),
             kind: PhantomData,
         }
     }

@@ -16,7 +16,6 @@ use super::Engine;
 use super::requests::told;
 use ber_core::OutOfMemory;
 use std::alloc::Allocator;
-use std::mem;
 use tcap_dialogue::{
     AbortRequest, AbortWhy, Address, BeginRequest, ContinueRequest, EndRequest, Ending, Fault,
     Outbox, Request, Sink, UniRequest,
@@ -42,8 +41,7 @@ impl<A: Allocator + Copy> Engine<A> {
         ensures stands { StandsReceived (since_answer outbox.old.outputs outbox.new.outputs) result
             (Event.received from.now bytes.now) self.old self.new }
     {
-        let alloc = self.table.allocator();
-        let mut sink = Sink::outbox(alloc, mem::replace(outbox, Outbox::new(alloc)));
+        let mut sink = Sink::take_outbox(self.table.allocator(), outbox);
         let received = self.receive_with(from, bytes, &mut sink);
         sink.put_back(outbox);
         received
@@ -81,8 +79,7 @@ impl<A: Allocator + Copy> Engine<A> {
         ensures err { OnErr result (self.new ≡ self.old) }
         ensures still { OnErr result (outbox.new.outputs ≡ outbox.old.outputs) }
     {
-        let alloc = self.table.allocator();
-        let mut sink = Sink::outbox(alloc, mem::replace(outbox, Outbox::new(alloc)));
+        let mut sink = Sink::take_outbox(self.table.allocator(), outbox);
         let expired = self.expire(now, &mut sink);
         sink.put_back(outbox);
         expired
@@ -133,8 +130,7 @@ impl<A: Allocator + Copy> Engine<A> {
             (Event.on_dialogue dialogue (model.Request.dialogue
             (DialogueRequest.begin to.now (option_copied context.entry) info.now))) self.old self.new }
     {
-        let alloc = self.table.allocator();
-        let mut sink = Sink::outbox(alloc, mem::replace(outbox, Outbox::new(alloc)));
+        let mut sink = Sink::take_outbox(self.table.allocator(), outbox);
         let sent = self.begin_with(dialogue, &BeginRequest { to, context, info }, &mut sink);
         sink.put_back(outbox);
         sent
@@ -158,8 +154,7 @@ impl<A: Allocator + Copy> Engine<A> {
             (Event.on_dialogue dialogue (model.Request.dialogue
             (DialogueRequest.go_on (option_copied context.entry) info.now))) self.old self.new }
     {
-        let alloc = self.table.allocator();
-        let mut sink = Sink::outbox(alloc, mem::replace(outbox, Outbox::new(alloc)));
+        let mut sink = Sink::take_outbox(self.table.allocator(), outbox);
         let sent = self.go_on_with(dialogue, &ContinueRequest { context, info }, &mut sink);
         sink.put_back(outbox);
         sent
@@ -189,8 +184,7 @@ impl<A: Allocator + Copy> Engine<A> {
             context,
             info,
         };
-        let alloc = self.table.allocator();
-        let mut sink = Sink::outbox(alloc, mem::replace(outbox, Outbox::new(alloc)));
+        let mut sink = Sink::take_outbox(self.table.allocator(), outbox);
         let sent = self.finish_with(dialogue, &end, &mut sink);
         sink.put_back(outbox);
         sent
@@ -239,8 +233,7 @@ impl<A: Allocator + Copy> Engine<A> {
         ensures stands { Stands (since_answer outbox.old.outputs outbox.new.outputs) result
             (Event.on_dialogue dialogue (request_view request.now)) self.old self.new }
     {
-        let alloc = self.table.allocator();
-        let mut sink = Sink::outbox(alloc, mem::replace(outbox, Outbox::new(alloc)));
+        let mut sink = Sink::take_outbox(self.table.allocator(), outbox);
         let accepted = self.request_with(dialogue, request, &mut sink);
         sink.put_back(outbox);
         told(accepted)

@@ -21,7 +21,6 @@ use super::Engine;
 use crate::event::{Answered, Event};
 use ber_core::OutOfMemory;
 use std::alloc::Allocator;
-use std::mem;
 use tcap_dialogue::{Accepted, Fault, Outbox, Request, Sink};
 
 /// A refusal is an answer, but for `OutOfMemory`.
@@ -128,8 +127,7 @@ impl<A: Allocator + Copy> Engine<A> {
         ensures stands { StandsReceived (answered_view (told_since outbox.old.outputs outbox.new.outputs)) result
             (model.Event.on_dialogue dialogue (request_view request.entry)) self.old self.new }
     {
-        let alloc = self.table.allocator();
-        let mut sink = Sink::outbox(alloc, mem::replace(outbox, Outbox::new(alloc)));
+        let mut sink = Sink::take_outbox(self.table.allocator(), outbox);
         let accepted = self.request_with(dialogue, &request, &mut sink);
         sink.put_back(outbox);
         answered(accepted)
