@@ -9,13 +9,13 @@ pub(crate) mod creation;
 pub(crate) mod dialogue_requests;
 pub(crate) mod events;
 pub(crate) mod faulty_message;
-pub(crate) mod frequent;
 pub(crate) mod getters;
 pub(crate) mod message_length;
 pub(crate) mod outbox_calls;
 mod outbox_events;
 pub(crate) mod receive;
 pub(crate) mod requests;
+pub(crate) mod uni_and_abort;
 
 ghost use Rattle.std.specs.Prelude.{◌≡◌};
 ghost use Rattle.tcap_engine.specs.Limits.{AreLimits, empty_history};

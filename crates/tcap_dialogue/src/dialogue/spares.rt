@@ -127,7 +127,7 @@ impl<A: Allocator + Copy> Spares<A> {
         if has_place(&self.queues) && is_small(queue) {
             self.queues.push_reserved(mem::replace(queue, empty));
         } else {
-            give_back(mem::replace(queue, empty));
+            free_queue(mem::replace(queue, empty));
         }
     }
 
@@ -148,10 +148,10 @@ impl<A: Allocator + Copy> Spares<A> {
     }
 }
 
-/// The memory of a queue goes back.
+/// The memory of a queue is freed.
 // It is rare, and kept out of what each request runs through.
 #[inline(never)]
-fn give_back<A: Allocator + Copy>(_queue: Queue<A>) {}
+fn free_queue<A: Allocator + Copy>(_queue: Queue<A>) {}
 
 /// Whether a queue has neither components nor memory for them.
 #[inline(always)]
@@ -212,5 +212,49 @@ impl<A: Allocator + Copy> Dialogue<A> {
             spares.keep_queue(&mut self.queue);
         }
         spares.keep_list(&mut self.invocations, 0);
+    }
+
+    /// Takes a queue for a component.
+    #[inline(always)]
+    pub(super) fn borrow_queue(&mut self, spares: &mut Spares<A>)
+        ensures { self.new ≡ self.old }
+    {
+        spares.lend_queue(&mut self.queue);
+    }
+
+    /// Takes what an Invoke needs: a queue and a list of invocations.
+    #[inline(always)]
+    pub(super) fn borrow_for_invoke(&mut self, spares: &mut Spares<A>, reject_ms: u64)
+        requires wait { self.old.invocations.reject_ms ≡ reject_ms }
+        requires limited { reject_ms ≤ moment_limit }
+        ensures { self.new ≡ self.old }
+    {
+        spares.lend_queue(&mut self.queue);
+        spares.lend_list(&mut self.invocations, reject_ms);
+    }
+
+    /// Gives back what was taken for a request that is refused: an empty queue, and of an Invoke an empty list.
+    #[inline(never)]
+    pub(super) fn give_back(&mut self, spares: &mut Spares<A>, reject_ms: u64, is_invoke: bool)
+        requires wait { self.old.invocations.reject_ms ≡ reject_ms }
+        requires limited { reject_ms ≤ moment_limit }
+        ensures { self.new ≡ self.old }
+    {
+        self.leave_queue(spares);
+        if is_invoke && self.invocations.is_above_all(0) {
+            spares.keep_list(&mut self.invocations, reject_ms);
+        }
+    }
+
+    /// Leaves the memory of an empty queue to others, after a request; after a Begin or a Continue it makes places for
+    /// what is left first.
+    #[inline(always)]
+    pub(super) fn leave_empty_queue(&mut self, spares: &mut Spares<A>, makes_places: bool)
+        ensures { self.new ≡ self.old }
+    {
+        if makes_places {
+            spares.make_places();
+        }
+        self.leave_queue(spares);
     }
 }

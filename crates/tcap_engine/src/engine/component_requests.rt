@@ -1,11 +1,15 @@
 //! The requests of component handling (Q.771, Component handling).
 
-// Where a call goes by `request`, the kind of its answer is known: inlined, the match on it folds away.
+// Where a call goes by `request`, the kind of its answer is known: inlined, the match on it folds away. TC-INVOKE and
+// TC-RESULT-L find their dialogue and ask it by calls of their own, for the reason that dialogue_requests.rt gives.
 
-ghost use Rattle.std.specs.Prelude.{◌≡◌, option_copied, OnErr, IfOk};
+ghost use Rattle.std.specs.Prelude.{◌≡◌, ◌≤◌, ℕ, nat_eq, true, option_copied, IfSome, OnErr, IfOk};
+ghost use Rattle.std.specs.Map.{lookup};
 ghost use Rattle.std.specs.Option.{option_map};
 ghost use Rattle.tcap_component.specs.Views.{body_parts, code_parts, problem_parts};
-ghost use Rattle.tcap_dialogue.specs.RequestForm.{gave_up, numbered, queued_done};
+ghost use Rattle.tcap_dialogue.specs.RequestForm.{RefusedBy, gave_up, numbered, queued_done};
+ghost use Rattle.tcap_dialogue.specs.StepViews.{asked, outcome};
+ghost use Rattle.tcap_engine.specs.DialogueEntries.{IsWithin};
 ghost use Rattle.tcap_engine.specs.StepForm.{EngineAnswers};
 ghost use Rattle.tcap_engine.specs.HistoryForm.{Stands, StandsAfter};
 ghost use Rattle.tcap_model.specs.Table.EngineMove.{engine_move, EngineMoved};
@@ -13,16 +17,22 @@ ghost use Rattle.tcap_model.specs.Words.Event.{Event};
 ghost use Rattle.tcap_model.specs.Words.Request as model;
 ghost use Rattle.tcap_model.specs.Words.Request.{ComponentRequest};
 ghost use Rattle.tcap_engine.specs.AnswerKinds.{AnswerKind, MayAnswer};
-ghost use Rattle.tcap_engine.specs.RequestInTable.{asked_answer};
+ghost use Rattle.tcap_engine.specs.RequestInTable.{AnswersInTable, asked_answer};
+ghost use Rattle.tcap_invocation.specs.Stage.{moment_limit};
+ghost use Rattle.tcap_model.specs.Table.TableMove.{DialogueEvent, table_move};
+ghost use Rattle.tcap_model.specs.Words.Identifiers.{are_numbers_spent};
+ghost use Rattle.tcap_primitives.specs.FaultViews.{fault_view};
+ghost use Rattle.tcap_primitives.specs.RequestViews.{invoke_view, last_view};
 ghost use Rattle.tcap_model.specs.Histories.History.{History};
 ghost use Rattle.tcap_model.specs.Table.World.{World};
 
 use super::Engine;
-use super::frequent::{invoke_in, result_last_in};
+use crate::dialogues::Dialogues;
 use std::alloc::Allocator;
 use tcap_component::{Body, Code, Problem};
 use tcap_dialogue::{
-    Asked, CancelRequest, ErrorRequest, Fault, InvokeRequest, RejectRequest, Request, ResultRequest,
+    Asked, CancelRequest, Dialogue, ErrorRequest, Fault, InvokeRequest, RejectRequest, Request,
+    ResultRequest,
 };
 use tcap_invocation::Class;
 use tcap_primitives::ranges;
@@ -190,4 +200,69 @@ fn given_up_of<A: Allocator + Copy>(asked: Result<Asked<'_, A>, Fault>) -> Resul
         Asked::GivenUp(number) => Ok(number),
         Asked::Number(_) | Asked::Done | Asked::Step(_) => unreachable!(),
     }
+}
+
+/// Why an Invoke is refused where all numbers are spent: for a fault of its own, if it has one.
+#[inline(never)]
+pub(super) fn spent_fault<A: Allocator + Copy>(
+    dialogue: &Dialogue<A>,
+    request: &InvokeRequest<'_>,
+) -> Fault
+    ensures { (clock number : ℕ) → are_numbers_spent number ≡ true → RefusedBy (fault_view result)
+        (outcome (table_move (asked clock number) dialogue.now
+        (DialogueEvent.request (model.Request.component (invoke_view request.now))))) dialogue.now dialogue.now }
+{
+    let fault = dialogue.check_invoke(
+        request.id,
+        request.code,
+        request.parameter,
+        request.timeout_ms,
+    );
+    fault.unwrap_or(Fault::NumbersSpent)
+}
+
+/// TC-INVOKE on the dialogue of an identifier, where `number` is what it gets; the greatest one is never drawn.
+#[inline(always)]
+fn invoke_in<A: Allocator + Copy>(
+    table: &mut Dialogues<A>,
+    identifier: u32,
+    reject_ms: u64,
+    number: u64,
+    request: &InvokeRequest<'_>,
+) -> Result<u64, Fault>
+    requires limited { reject_ms ≤ moment_limit }
+    requires within { IfSome (lookup (nat_eq identifier) table.old) (IsWithin reject_ms number) }
+    ensures { (clock : ℕ) → AnswersInTable numbered result
+        (λ x. outcome (table_move (asked clock number) x
+        (DialogueEvent.request (model.Request.component (invoke_view request.now)))))
+        identifier (lookup (nat_eq identifier) table.old) table.old table.new }
+{
+    let Some(dialogue) = table.rows.get_mut(identifier) else {
+        return Err(Fault::UnknownDialogue);
+    };
+    if number == u64::MAX {
+        return Err(spent_fault(dialogue, request));
+    }
+    dialogue.invoke_with(&mut table.spares, reject_ms, number, request)
+}
+
+/// TC-RESULT-L on the dialogue of an identifier.
+#[inline(always)]
+fn result_last_in<A: Allocator + Copy>(
+    table: &mut Dialogues<A>,
+    identifier: u32,
+    reject_ms: u64,
+    request: &ResultRequest<'_>,
+) -> Result<(), Fault>
+    requires limited { reject_ms ≤ moment_limit }
+    requires wait { IfSome (lookup (nat_eq identifier) table.old) (λ d. d.invocations.reject_ms ≡ reject_ms) }
+    ensures { (clock number : ℕ) → AnswersInTable queued_done result
+        (λ x. outcome (table_move (asked clock number) x
+        (DialogueEvent.request (model.Request.component (last_view request.now)))))
+        identifier (lookup (nat_eq identifier) table.old) table.old table.new }
+{
+    let Some(dialogue) = table.rows.get_mut(identifier) else {
+        return Err(Fault::UnknownDialogue);
+    };
+    dialogue.result_last_with(&mut table.spares, reject_ms, request)
 }

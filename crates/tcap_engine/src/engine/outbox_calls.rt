@@ -13,7 +13,7 @@ ghost use Rattle.tcap_primitives.specs.RequestViews.{ending_view, reason_view, r
 ghost use Rattle.tcap_primitives.specs.SinkViews.{KeepsOutputs};
 
 use super::Engine;
-use super::requests::told;
+use super::requests::without_answer;
 use ber_core::OutOfMemory;
 use std::alloc::Allocator;
 use tcap_dialogue::{
@@ -236,6 +236,6 @@ impl<A: Allocator + Copy> Engine<A> {
         let mut sink = Sink::take_outbox(self.table.allocator(), outbox);
         let accepted = self.request_with(dialogue, request, &mut sink);
         sink.put_back(outbox);
-        told(accepted)
+        without_answer(accepted)
     }
 }

@@ -23,7 +23,7 @@ ghost use Rattle.tcap_model.specs.Table.World.{World};
 ghost use Rattle.tcap_model.specs.Words.Output as model;
 
 use super::Engine;
-use super::frequent::spent_fault;
+use super::component_requests::spent_fault;
 use crate::dialogues::{Dialogues, settle, timer_after};
 use std::alloc::Allocator;
 use tcap_dialogue::{Accepted, Asked, Dialogue, Fault, Request, Sink, SinkKind, Spares};
@@ -227,9 +227,9 @@ impl<A: Allocator + Copy> Engine<A> {
     }
 }
 
-/// What is sent and told was appended.
+/// A request of dialogue handling was accepted: what it answers was appended.
 #[inline(always)]
-pub(super) fn told(accepted: Result<Accepted, Fault>) -> Result<(), Fault>
+pub(super) fn without_answer(accepted: Result<Accepted, Fault>) -> Result<(), Fault>
     requires { IfOk accepted (λ a. (told : List model.Output)
         → MayAnswer AnswerKind.outputs (accepted_answer told a)) }
     ensures moves { (before after : List model.Output) (m : EngineMoved) (old new : World)

@@ -24,6 +24,7 @@ use super::sending::{
     frame_length, gives_any, is_name_good, send, send_frame, within_limit_if_any,
 };
 use crate::dialogue::ending::tell_ended;
+use crate::dialogue::spares::Spares;
 use crate::dialogue::{Dialogue, Step};
 use std::alloc::Allocator;
 use tcap_pdu::{Frame, TransId, is_user_information};
@@ -240,5 +241,41 @@ impl<A: Allocator + Copy> Dialogue<A> {
             outputs,
             over: after.is_over(),
         })
+    }
+
+    /// `finish`, of which what is sent and told is appended to what a sink holds. What the dialogue, which is over,
+    /// leaves is for `leave_memory`; where the end is refused, an empty queue leaves its memory to others. Faults:
+    /// those of `finish` (Q.771, TC-END; the memory is our own).
+    #[inline(always)]
+    pub fn finish_with<'m, K: SinkKind>(
+        &mut self,
+        spares: &mut Spares<A>,
+        request: &EndRequest<'_>,
+        sink: &mut Sink<'m, A, K>,
+    ) -> Result<After, Fault>
+        ensures step { StepsInto sink.old.outputs sink.new.outputs result
+            (requested 0 0 self.old (Request.dialogue (end_view request.now))) self.old self.new }
+        ensures kept { self.new.standing.identifier ≡ self.old.standing.identifier }
+    {
+        let sent = self.send_end(request, sink);
+        // Where it is over, `leave_memory` follows, which leaves the queue too.
+        if sent.is_err() {
+            self.leave_queue(spares);
+        }
+        sent
+    }
+
+    /// `send_end`, as a call.
+    #[inline(never)]
+    pub(super) fn send_end_apart<'m, K: SinkKind>(
+        &mut self,
+        request: &EndRequest<'_>,
+        sink: &mut Sink<'m, A, K>,
+    ) -> Result<After, Fault>
+        ensures step { StepsInto sink.old.outputs sink.new.outputs result
+            (requested 0 0 self.old (Request.dialogue (end_view request.now))) self.old self.new }
+        ensures kept { self.new.standing.identifier ≡ self.old.standing.identifier }
+    {
+        self.send_end(request, sink)
     }
 }

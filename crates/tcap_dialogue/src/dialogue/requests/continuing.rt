@@ -20,6 +20,7 @@ ghost use Rattle.tcap_primitives.specs.SendingViews.{CanSend, sending_view};
 use super::sending::{
     frame_length, gives_any, is_name_good, send, send_frame, within_limit_if_any,
 };
+use crate::dialogue::spares::Spares;
 use crate::dialogue::{Dialogue, Step};
 use std::alloc::Allocator;
 use tcap_pdu::{Frame, TransId, is_user_information};
@@ -199,5 +200,42 @@ impl<A: Allocator + Copy> Dialogue<A> {
             outputs,
             over: after.is_over(),
         })
+    }
+
+    /// `go_on`, whose message is appended to what a sink holds; `clock` is in milliseconds, at most 2^62. The queue
+    /// leaves its memory to others; it is empty, unless the Continue is refused. Faults: those of `go_on`
+    /// (Q.771, TC-CONTINUE; the memory is our own).
+    #[inline(always)]
+    pub fn go_on_with<'m, K: SinkKind>(
+        &mut self,
+        spares: &mut Spares<A>,
+        request: &ContinueRequest<'_>,
+        clock: u64,
+        sink: &mut Sink<'m, A, K>,
+    ) -> Result<After, Fault>
+        requires { clock ≤ moment_limit }
+        ensures step { StepsInto sink.old.outputs sink.new.outputs result
+            (requested clock 0 self.old (Request.dialogue (continue_view request.now))) self.old self.new }
+        ensures kept { self.new.standing.identifier ≡ self.old.standing.identifier }
+    {
+        let sent = self.send_continue(request, clock, sink);
+        self.leave_empty_queue(spares, sent.is_ok());
+        sent
+    }
+
+    /// `send_continue`, as a call.
+    #[inline(never)]
+    pub(super) fn send_continue_apart<'m, K: SinkKind>(
+        &mut self,
+        request: &ContinueRequest<'_>,
+        clock: u64,
+        sink: &mut Sink<'m, A, K>,
+    ) -> Result<After, Fault>
+        requires { clock ≤ moment_limit }
+        ensures step { StepsInto sink.old.outputs sink.new.outputs result
+            (requested clock 0 self.old (Request.dialogue (continue_view request.now))) self.old self.new }
+        ensures kept { self.new.standing.identifier ≡ self.old.standing.identifier }
+    {
+        self.send_continue(request, clock, sink)
     }
 }

@@ -2,7 +2,7 @@
 
 // Hints to inline have the reasons that requests.rt gives.
 
-ghost use Rattle.std.specs.Prelude.{◌≡◌, ◌↔◌, ◌<◌, ◌^◌, ◌-◌, ◌&&◌, ℕ, ℤ, length, Option, Some, None, IfOk, OnOk, IfErr, IsTrue, nat_lt, nat_le, option_copied};
+ghost use Rattle.std.specs.Prelude.{◌≡◌, ◌↔◌, ◌<◌, ◌≤◌, ◌^◌, ◌-◌, ◌&&◌, ℕ, ℤ, length, Option, Some, None, IfOk, OnOk, IfErr, IsTrue, nat_lt, nat_le, option_copied};
 ghost use Rattle.std.specs.Option.{option_map};
 ghost use Rattle.tcap_component.specs.Views.{code_parts, component_parts};
 ghost use Rattle.tcap_component.specs.Written.{CanWriteComponent, written_component};
@@ -21,6 +21,7 @@ ghost use Rattle.tcap_primitives.specs.declared.fault.Fault.TheVariants as fault
 ghost use Rattle.tcap_primitives.specs.RequestViews.{cancel_view, invoke_view};
 
 use crate::dialogue::Dialogue;
+use crate::dialogue::spares::Spares;
 use std::alloc::Allocator;
 use tcap_component::{Code, Component};
 use tcap_invocation::{Class, MAX_MOMENT};
@@ -193,5 +194,51 @@ impl<A: Allocator + Copy> Dialogue<A> {
         };
         self.queue.remove_invoke(number);
         Ok(number)
+    }
+
+    /// `invoke`, where the component takes memory that other dialogues left; where it is refused that is given back.
+    /// `number`, 0 to 2^64 - 2, is what the invocation gets, above those of the dialogue; `reject_ms`, at most 2^62
+    /// milliseconds, is what the dialogue was made with. Faults: those of `invoke`
+    /// (Q.771, TC-INVOKE; the memory is our own).
+    #[inline(always)]
+    pub fn invoke_with(
+        &mut self,
+        spares: &mut Spares<A>,
+        reject_ms: u64,
+        number: u64,
+        request: &InvokeRequest<'_>,
+    ) -> Result<u64, Fault>
+        requires wait { self.old.invocations.reject_ms ≡ reject_ms }
+        requires limited { reject_ms ≤ moment_limit }
+        requires left { number < 2 ^ 64 - 1 }
+        requires above { AllBelow number self.old.invocations.rows }
+        ensures answer { Answers numbered result
+            (requested 0 number self.old (Request.component (invoke_view request.now))) self.old self.new }
+        ensures kept { self.new.standing.identifier ≡ self.old.standing.identifier }
+    {
+        self.borrow_for_invoke(spares, reject_ms);
+        match self.queue_invoke(number, request) {
+            Ok(number) => Ok(number),
+            Err(fault) => {
+                self.give_back(spares, reject_ms, true);
+                Err(fault)
+            }
+        }
+    }
+
+    /// `queue_invoke`, as a call.
+    #[inline(never)]
+    pub(super) fn queue_invoke_apart(
+        &mut self,
+        number: u64,
+        request: &InvokeRequest<'_>,
+    ) -> Result<u64, Fault>
+        requires left { number < 2 ^ 64 - 1 }
+        requires above { AllBelow number self.old.invocations.rows }
+        ensures answer { Answers numbered result
+            (requested 0 number self.old (Request.component (invoke_view request.now))) self.old self.new }
+        ensures kept { self.new.standing.identifier ≡ self.old.standing.identifier }
+    {
+        self.queue_invoke(number, request)
     }
 }

@@ -23,6 +23,7 @@ use super::sending::{
     frame_length, is_name_good, lacks_context, send, send_frame, within_limit_if_any,
 };
 use crate::dialogue::kept_address::{Names, is_short, keep_short};
+use crate::dialogue::spares::Spares;
 use crate::dialogue::{Dialogue, Step};
 use std::alloc::Allocator;
 use tcap_address::Address;
@@ -237,5 +238,42 @@ impl<A: Allocator + Copy> Dialogue<A> {
             outputs,
             over: after.is_over(),
         })
+    }
+
+    /// `begin`, whose message is appended to what a sink holds; `clock` is in milliseconds, at most 2^62. The queue
+    /// leaves its memory to others; it is empty, unless the Begin is refused. Faults: those of `begin`
+    /// (Q.771, TC-BEGIN; the memory is our own).
+    #[inline(always)]
+    pub fn begin_with<'m, K: SinkKind>(
+        &mut self,
+        spares: &mut Spares<A>,
+        request: &BeginRequest<'_>,
+        clock: u64,
+        sink: &mut Sink<'m, A, K>,
+    ) -> Result<After, Fault>
+        requires { clock ≤ moment_limit }
+        ensures step { StepsInto sink.old.outputs sink.new.outputs result
+            (requested clock 0 self.old (Request.dialogue (begin_view request.now))) self.old self.new }
+        ensures kept { self.new.standing.identifier ≡ self.old.standing.identifier }
+    {
+        let sent = self.send_begin(request, clock, sink);
+        self.leave_empty_queue(spares, sent.is_ok());
+        sent
+    }
+
+    /// `send_begin`, as a call.
+    #[inline(never)]
+    pub(super) fn send_begin_apart<'m, K: SinkKind>(
+        &mut self,
+        request: &BeginRequest<'_>,
+        clock: u64,
+        sink: &mut Sink<'m, A, K>,
+    ) -> Result<After, Fault>
+        requires { clock ≤ moment_limit }
+        ensures step { StepsInto sink.old.outputs sink.new.outputs result
+            (requested clock 0 self.old (Request.dialogue (begin_view request.now))) self.old self.new }
+        ensures kept { self.new.standing.identifier ≡ self.old.standing.identifier }
+    {
+        self.send_begin(request, clock, sink)
     }
 }

@@ -3,13 +3,14 @@
 
 // Hints to inline have the reasons that requests.rt gives.
 
-ghost use Rattle.std.specs.Prelude.{◌≡◌, length, Some, None, IfOk, OnOk, IfErr, option_copied};
+ghost use Rattle.std.specs.Prelude.{◌≡◌, ◌≤◌, length, Some, None, IfOk, OnOk, IfErr, option_copied};
 ghost use Rattle.std.specs.Option.{option_map};
 ghost use Rattle.tcap_component.specs.Views.{body_parts, code_parts, component_parts, problem_parts};
 ghost use Rattle.tcap_component.specs.Written.{CanWriteComponent, written_component};
 ghost use Rattle.tcap_dialogue.specs.ComponentRefusals.{answer_fault, answered};
 ghost use Rattle.tcap_dialogue.specs.RequestForm.{Answers, queued_done};
 ghost use Rattle.tcap_dialogue.specs.StepViews.{requested};
+ghost use Rattle.tcap_invocation.specs.Stage.{moment_limit};
 ghost use Rattle.tcap_model.specs.Table.Dialogue.{with_invocations};
 ghost use Rattle.tcap_model.specs.Table.TableMove.{freed_by};
 ghost use Rattle.tcap_model.specs.Words.Request.{Request};
@@ -18,6 +19,7 @@ ghost use Rattle.tcap_primitives.specs.FaultViews.{fault_view};
 ghost use Rattle.tcap_primitives.specs.RequestViews.{error_view, last_view, more_view, reject_view};
 
 use crate::dialogue::Dialogue;
+use crate::dialogue::spares::Spares;
 use std::alloc::Allocator;
 use tcap_component::{Body, Code, Component, Kind, Problem};
 use tcap_primitives::{ErrorRequest, Fault, RejectRequest, ResultRequest};
@@ -170,5 +172,44 @@ impl<A: Allocator + Copy> Dialogue<A> {
             }
             Kind::General | Kind::Invoke => {}
         }
+    }
+
+    /// `result_last`, where the component takes memory that other dialogues left; where it is refused that is given
+    /// back. `reject_ms`, at most 2^62 milliseconds, is what the dialogue was made with. Faults: those of
+    /// `result_last` (Q.771, TC-RESULT-L; the memory is our own).
+    #[inline(always)]
+    pub fn result_last_with(
+        &mut self,
+        spares: &mut Spares<A>,
+        reject_ms: u64,
+        request: &ResultRequest<'_>,
+    ) -> Result<(), Fault>
+        requires wait { self.old.invocations.reject_ms ≡ reject_ms }
+        requires limited { reject_ms ≤ moment_limit }
+        ensures answer { Answers queued_done result
+            (requested 0 0 self.old (Request.component (last_view request.now))) self.old self.new }
+        ensures kept { self.new.standing.identifier ≡ self.old.standing.identifier }
+    {
+        self.borrow_queue(spares);
+        match self.queue_result_last(request) {
+            Ok(()) => Ok(()),
+            Err(fault) => {
+                self.give_back(spares, reject_ms, false);
+                Err(fault)
+            }
+        }
+    }
+
+    /// `queue_result_last`, as a call.
+    #[inline(never)]
+    pub(super) fn queue_result_last_apart(
+        &mut self,
+        request: &ResultRequest<'_>,
+    ) -> Result<(), Fault>
+        ensures answer { Answers queued_done result
+            (requested 0 0 self.old (Request.component (last_view request.now))) self.old self.new }
+        ensures kept { self.new.standing.identifier ≡ self.old.standing.identifier }
+    {
+        self.queue_result_last(request)
     }
 }

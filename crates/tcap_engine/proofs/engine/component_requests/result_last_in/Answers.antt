@@ -10,7 +10,7 @@ use Rattle.tcap_model.specs.Table.TableMove.{DialogueEvent, table_move}
 use Rattle.tcap_model.specs.Words.Request.{Request}
 use Rattle.tcap_primitives.specs.RequestViews.{last_view}
 use Rattle.timed_table.specs.Row.{entries_of}
-use Rattle.tcap_engine.proofs.engine.frequent.result_last_in.Goals as goal
+use Rattle.tcap_engine.proofs.engine.component_requests.result_last_in.Goals as goal
 
 pub invariant_of-table-2 : goal.invariant_of-table-2
 unfolding table_move

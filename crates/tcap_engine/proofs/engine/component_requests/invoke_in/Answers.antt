@@ -13,7 +13,7 @@ use Rattle.tcap_model.specs.Words.Request.{Request}
 use Rattle.tcap_primitives.specs.FaultViews.{fault_view}
 use Rattle.tcap_primitives.specs.RequestViews.{invoke_view}
 use Rattle.timed_table.specs.Row.{entries_of}
-use Rattle.tcap_engine.proofs.engine.frequent.invoke_in.Goals as goal
+use Rattle.tcap_engine.proofs.engine.component_requests.invoke_in.Goals as goal
 
 -- All numbers are spent: nothing changes.
 pub invariant_of-table-then-number-eq18446744073709551615 : goal.invariant_of-table-then-number-eq18446744073709551615

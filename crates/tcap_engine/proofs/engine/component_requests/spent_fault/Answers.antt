@@ -4,7 +4,7 @@ use Rattle.std.specs.Int.{w8}
 use Rattle.tcap_component.specs.Views.{code_parts}
 use Rattle.tcap_engine.proofs.SpentLemmas.{spent-refused}
 use Rattle.tcap_primitives.specs.declared.fault.Fault.TheVariants as fault
-use Rattle.tcap_engine.proofs.engine.frequent.spent_fault.Goals as goal
+use Rattle.tcap_engine.proofs.engine.component_requests.spent_fault.Goals as goal
 
 pub returns : goal.returns
 returns g c clock number none =

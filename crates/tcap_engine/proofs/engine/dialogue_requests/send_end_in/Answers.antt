@@ -12,7 +12,7 @@ use Rattle.tcap_primitives.specs.FaultViews.{fault_view}
 use Rattle.tcap_primitives.specs.RequestViews.{end_view}
 use Rattle.tcap_primitives.specs.SinkViews.{told_since}
 use Rattle.timed_table.specs.Row.{entries_of}
-use Rattle.tcap_engine.proofs.engine.frequent.send_end_in.Goals as goal
+use Rattle.tcap_engine.proofs.engine.dialogue_requests.send_end_in.Goals as goal
 
 pub invariant_of-table-in_err-after : goal.invariant_of-table-in_err-after
 unfolding table_move
