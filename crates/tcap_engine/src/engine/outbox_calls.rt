@@ -216,9 +216,51 @@ impl<A: Allocator + Copy> Engine<A> {
     }
 
     /// A request of dialogue handling, into an outbox.
-    // Each call that knows its request has its own copy, in which the match on it folds away.
+    // Each call that knows its request has its own copy, in which the match on it folds away. A Continue and an End go
+    // by the calls of their names, into which all that they do is inlined (dialogue_requests.rt): through a station a
+    // Continue takes 49 instructions less so and an End 17. A Begin would take 12 more.
     #[inline(always)]
     pub fn request_into(
+        &mut self,
+        dialogue: u32,
+        request: &Request<'_>,
+        outbox: &mut Outbox<A>,
+    ) -> Result<(), Fault>
+        requires { kind_of (request_view request.now) ≡ AnswerKind.outputs }
+        ensures moves { EngineAnswers (since_answer outbox.old.outputs outbox.new.outputs) result
+            (engine_move self.old (Event.on_dialogue dialogue (request_view request.now))) self.old self.new }
+        ensures kept { KeepsOutputs outbox.old.outputs outbox.new.outputs }
+        ensures still { OnErr result (outbox.new.outputs ≡ outbox.old.outputs) }
+        ensures err { OnErr result (self.new ≡ self.old) }
+        ensures stands { Stands (since_answer outbox.old.outputs outbox.new.outputs) result
+            (Event.on_dialogue dialogue (request_view request.now)) self.old self.new }
+    {
+        match *request {
+            Request::Continue(ContinueRequest { context, info }) => {
+                self.go_on_into(dialogue, context, info, outbox)
+            }
+            Request::End(
+                EndRequest {
+                    ending,
+                    context,
+                    info,
+                },
+            ) => self.finish_into(dialogue, ending, context, info, outbox),
+            Request::Uni(_)
+            | Request::Begin(_)
+            | Request::Abort(_)
+            | Request::Invoke(_)
+            | Request::ResultLast(_)
+            | Request::ResultMore(_)
+            | Request::ErrorBack(_)
+            | Request::Reject(_)
+            | Request::Cancel(_) => self.any_request_into(dialogue, request, outbox),
+        }
+    }
+
+    /// `request_into`, by what takes any request.
+    #[inline(always)]
+    fn any_request_into(
         &mut self,
         dialogue: u32,
         request: &Request<'_>,
