@@ -47,7 +47,8 @@ pub struct Step<'m, A: Allocator = Global> {
 ///   `go_on_with`, `finish_with`, or any request by `ask_with`; `take_begin_with` and `take_frame_with`. `BeginMemory`
 ///   finds the memory that a Begin takes. `leave_memory` leaves its own memory to others.
 /// - Into a sink without it: `take_faulty`.
-/// - Getters: `identifier`, `state`, `peer`, `kept`, `check_invoke`, `message_length`, `next_timer`, `idle_at`.
+/// - Getters: `identifier`, `state`, `is_live`, `peer`, `kept`, `check_invoke`, `message_length`, `next_timer`,
+///   `idle_at`.
 ///
 /// Moments are in milliseconds by the caller's clock, at most 2^62. A contract sees the identifier,
 /// state, context, queue, invocations, idle limit, last activity and the peer's address, and forgets

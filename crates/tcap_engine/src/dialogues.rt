@@ -6,18 +6,17 @@ ghost use Rattle.std.specs.Prelude.{◌≡◌, ◌≤◌, ◌+◌, ◌++◌, ◌
 ghost use Rattle.std.specs.Prelude.{None, false, option_copied, OnErr, OnOk, if◌then◌else◌};
 ghost use Rattle.std.specs.List.{flat_map};
 ghost use Rattle.std.specs.Map.{lookup, remove_entry};
-ghost use Rattle.std.specs.Option.{option_map};
 ghost use Rattle.tcap_engine.specs.DialogueEntries.{AreDrawn, AreFrom};
 ghost use Rattle.tcap_engine.specs.IdleDialogues.{AreDistinct, idle_end_in, without_all};
 ghost use Rattle.tcap_engine.specs.Lapsing.{timer_of};
-ghost use Rattle.tcap_reception.specs.StateViews.{state_of};
+ghost use Rattle.tcap_model.specs.Table.EngineMove.{is_live_if_any};
 ghost use Rattle.timed_table.specs.Row.{entries_of, with_time, without};
 
 use ber_core::OutOfMemory;
 use std::alloc::{AllocFailed, Allocator, Global};
 use std::fmt;
 use std::marker::Model;
-use tcap_dialogue::{Dialogue, Sink, SinkKind, Spares, State};
+use tcap_dialogue::{Dialogue, Sink, SinkKind, Spares};
 use timed_table::Table;
 
 /// The dialogues by their identifiers, in order of creation; beside each its next timer.
@@ -74,15 +73,17 @@ impl<A: Allocator + Copy> Dialogues<A> {
         self.rows.get(identifier)
     }
 
-    /// The state of the dialogue with an identifier, if it stands; a call for the same one that follows finds it at
+    /// Whether the dialogue with an identifier stands and is live; a call for the same one that follows finds it at
     /// once.
     #[inline(always)]
-    pub(crate) fn find_state(&mut self, identifier: u32) -> Option<State>
-        ensures state { result ≡ option_map (λ d. state_of d.standing.state) (lookup (nat_eq identifier) self.old) }
+    pub(crate) fn is_live(&mut self, identifier: u32) -> bool
+        ensures live { result ≡ is_live_if_any (lookup (nat_eq identifier) self.old) }
         ensures same { self.new ≡ self.old }
     {
-        let dialogue = self.rows.get_mut(identifier)?;
-        Some(dialogue.state())
+        let Some(dialogue) = self.rows.get_mut(identifier) else {
+            return false;
+        };
+        dialogue.is_live()
     }
 
     /// Takes in a dialogue that has no timer yet, under an identifier above all others. All memory that its

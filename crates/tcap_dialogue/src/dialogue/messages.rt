@@ -13,7 +13,7 @@ ghost use Rattle.tcap_invocation.specs.Stage.{moment_limit};
 ghost use Rattle.tcap_model.specs.Procedures.PortionRules.{portion_verdict};
 ghost use Rattle.tcap_model.specs.Procedures.PortionRules.PortionVerdict.{normal};
 ghost use Rattle.tcap_model.specs.Table.TableMove.{DialogueEvent, Setting, continued_by, framed, table_move, walked_in};
-ghost use Rattle.tcap_model.specs.Words.State.{address_by};
+ghost use Rattle.tcap_model.specs.Words.State.{address_by, is_live};
 ghost use Rattle.tcap_pdu.specs.FramePortions.{dialogue_slice, components_slice};
 ghost use Rattle.tcap_pdu.specs.FrameViews.{message};
 
@@ -167,6 +167,14 @@ impl<A: Allocator + Copy> Dialogue<A> {
             }
             Frame::Uni { .. } | Frame::Begin { .. } => Ok(After::Open),
         }
+    }
+
+    /// Whether messages to it are taken: it is in Sent or in Active (Q.774, Transaction state machine).
+    #[inline(always)]
+    pub fn is_live(&self) -> bool
+        ensures { result ≡ is_live self.now.standing.state }
+    {
+        self.phase.is_live()
     }
 
     /// `take_frame`, whose outputs are appended to what a sink holds, where the Rejects that answer components take

@@ -8,7 +8,6 @@ ghost use Rattle.tcap_primitives.specs.AbortViews.{CanWriteAbort, abort_sent, ca
 ghost use Rattle.tcap_primitives.specs.OutputViews.{drop_view};
 ghost use Rattle.tcap_engine.specs.StepForm.{EngineReceives, ReceivesInto, outputs_answer, since_answer};
 ghost use Rattle.tcap_engine.specs.HistoryForm.{StandsReceived};
-ghost use Rattle.tcap_engine.specs.StateOf.{state_in};
 ghost use Rattle.tcap_model.specs.Procedures.AbortRules.{abort_with, message_sent};
 ghost use Rattle.tcap_model.specs.Procedures.PortionRules.{uni_verdict};
 ghost use Rattle.tcap_model.specs.Procedures.Reception.{addressed, message_by, uni_by};
@@ -29,8 +28,8 @@ use crate::dialogues::{Dialogues, settle, timer_after};
 use ber_core::OutOfMemory;
 use std::alloc::Allocator;
 use tcap_dialogue::{
-    Abort, Address, Cause, DropWhy, Indication, Output, PortionVerdict, Sink, SinkKind, State,
-    judge_uni, take_uni_into,
+    Abort, Address, Cause, DropWhy, Indication, Output, PortionVerdict, Sink, SinkKind, judge_uni,
+    take_uni_into,
 };
 use tcap_pdu::{Frame, MAX_MESSAGE, TransId, read_frame};
 use tcap_primitives::ranges;
@@ -175,19 +174,7 @@ impl<A: Allocator + Copy> Engine<A> {
         ensures live { result ≡ is_live_in self.old.dialogues dialogue }
         ensures same { self.new ≡ self.old }
     {
-        match self.find_state(dialogue) {
-            Some(State::Sent | State::Active) => true,
-            Some(State::Fresh | State::Received) | None => false,
-        }
-    }
-
-    /// The state of the dialogue with this identifier, if it stands.
-    #[inline(always)]
-    fn find_state(&mut self, dialogue: u32) -> Option<State>
-        ensures state { result ≡ state_in self.old dialogue }
-        ensures same { self.new ≡ self.old }
-    {
-        self.table.find_state(dialogue)
+        self.table.is_live(dialogue)
     }
 
     /// A live dialogue takes a Continue, an End or an Abort (Q.774, Transaction sublayer procedures).
