@@ -1,12 +1,14 @@
-//! The heap of items: order, and moving up and down.
+//! The heap of items: order, moving up and down, and how the timer of an item is set.
 
 // Hints to inline: each step of an engine runs through it; docs/PERF.md says what the whole of it inlined gains.
 
-ghost use Rattle.std.specs.Prelude.{◌≡◌, ◌<◌, ◌+◌, ◌*◌, ℕ, false, length, ◌^◌};
+ghost use Rattle.std.specs.Prelude.{◌≡◌, ◌<◌, ◌+◌, ◌*◌, ℕ, false, length, slice_set, ◌^◌};
 ghost use Rattle.timer_queue.specs.Order.{comes_before};
-ghost use Rattle.timer_queue.specs.Heap.{IsChild, IsOrdered, IsOrderedBut, IsFineBelow, IsFineAbove, IsTied, item_at, key_at, heap_swapped, heap_with, places_swapped, places_with};
+ghost use Rattle.timer_queue.specs.Heap.{IsChild, IsOrdered, IsOrderedBut, IsFineBelow, IsFineAbove, IsSound, IsTied, item_at, key_at, heap_swapped, heap_with, places_swapped, places_with};
 
+use crate::queue::TimerQueue;
 use crate::timer::Timer;
+use std::alloc::Allocator;
 
 /// Whether the item at a place has a timer before that of the item at another.
 #[inline(always)]
@@ -32,7 +34,7 @@ fn parent_of(at: usize) -> usize
 
 /// Puts the items at two places into each other's place.
 #[inline(always)]
-pub(crate) fn swap_places(heap: &mut [usize], places: &mut [usize], a: usize, b: usize)
+fn swap_places(heap: &mut [usize], places: &mut [usize], a: usize, b: usize)
     requires a { a < length heap.old }
     requires b { b < length heap.old }
     requires first { item_at heap.old a < length places.old }
@@ -50,7 +52,7 @@ pub(crate) fn swap_places(heap: &mut [usize], places: &mut [usize], a: usize, b:
 
 /// Moves the item at a place up, as long as its timer is before that of the place above.
 #[inline(always)]
-pub(crate) fn sift_up(heap: &mut [usize], places: &mut [usize], timers: &[Option<Timer>], at: usize)
+fn sift_up(heap: &mut [usize], places: &mut [usize], timers: &[Option<Timer>], at: usize)
     requires at { at < length timers.now }
     requires tied { IsTied heap.old places.old (length timers.now) }
     requires but { IsOrderedBut (key_at timers.now heap.old) (length timers.now) at }
@@ -126,12 +128,7 @@ fn sink(
 /// Moves the item at a place down, if the timer of a place below is before its own: to the end, which takes
 /// one comparison a level, and then up to where it belongs, which is seldom far.
 #[inline(always)]
-pub(crate) fn sift_down(
-    heap: &mut [usize],
-    places: &mut [usize],
-    timers: &[Option<Timer>],
-    at: usize,
-)
+fn sift_down(heap: &mut [usize], places: &mut [usize], timers: &[Option<Timer>], at: usize)
     requires at { at < length timers.now }
     requires tied { IsTied heap.old places.old (length timers.now) }
     requires but { IsOrderedBut (key_at timers.now heap.old) (length timers.now) at }
@@ -152,7 +149,7 @@ pub(crate) fn sift_down(
 
 /// Brings the item at a place, whose timer changed, to where it belongs.
 #[inline(always)]
-pub(crate) fn sift(heap: &mut [usize], places: &mut [usize], timers: &[Option<Timer>], at: usize)
+fn sift(heap: &mut [usize], places: &mut [usize], timers: &[Option<Timer>], at: usize)
     requires at { at < length timers.now }
     requires tied { IsTied heap.old places.old (length timers.now) }
     requires but { IsOrderedBut (key_at timers.now heap.old) (length timers.now) at }
@@ -163,6 +160,47 @@ pub(crate) fn sift(heap: &mut [usize], places: &mut [usize], timers: &[Option<Ti
         sift_up(heap, places, timers, at);
     } else {
         sift_down(heap, places, timers, at);
+    }
+}
+
+/// Writes the timer of an item, and brings the item to its new place.
+#[inline(always)]
+fn set_timer(
+    heap: &mut [usize],
+    places: &mut [usize],
+    timers: &mut [Option<Timer>],
+    item: usize,
+    timer: Option<Timer>,
+)
+    requires item { item < length timers.old }
+    requires sound { IsSound heap.old places.old timers.old }
+    ensures sound { IsSound heap.new places.new timers.new }
+    ensures set { timers.new ≡ slice_set timers.old item timer }
+{
+    timers[item] = timer;
+    let place = places[item];
+    sift(heap, places, timers, place);
+}
+
+impl<A: Allocator + Copy> TimerQueue<A> {
+    /// Gives an item this timer, or none; where that is its timer, nothing moves. Takes no memory.
+    // Most timers that are set are those that stand: the caller sees that by itself, and calls only for a
+    // change.
+    #[inline(always)]
+    pub fn set(&mut self, item: usize, timer: Option<Timer>)
+        requires { item < length self.old }
+        ensures { self.new ≡ slice_set self.old item timer }
+    {
+        if self.timers[item] == timer {
+            return;
+        }
+        set_timer(
+            &mut self.heap,
+            &mut self.places,
+            &mut self.timers,
+            item,
+            timer,
+        );
     }
 }
 

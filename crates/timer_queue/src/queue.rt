@@ -2,13 +2,12 @@
 
 // Hints to inline: each step of an engine runs through it; docs/PERF.md says what the whole of it inlined gains.
 
-ghost use Rattle.std.specs.Prelude.{◌≡◌, ◌<◌, ◌++◌, [], ◌∷◌, None, OnOk, OnErr, MatchOption, length, slice_set, ◌≤◌, ◌+◌, vec_len, vec_capacity, ℕ};
+ghost use Rattle.std.specs.Prelude.{◌≡◌, ◌<◌, ◌++◌, [], ◌∷◌, None, OnOk, OnErr, MatchOption, length, ◌≤◌, ◌+◌, vec_len, vec_capacity, ℕ};
 ghost use Rattle.timer_queue.specs.Order.{timer_at};
 ghost use Rattle.timer_queue.specs.Queue.{HasNoTimer, IsFirst};
 ghost use Rattle.timer_queue.specs.Heap.{IsSound, IsOrdered, item_at, key_at};
 
 use crate::due::Due;
-use crate::heap::sift;
 use crate::timer::Timer;
 use std::alloc::{AllocError, Allocator, Global};
 use std::marker::Model;
@@ -24,11 +23,11 @@ use std::marker::Model;
 #[derive(Debug, Drop)]
 pub struct TimerQueue<A: Allocator + Copy = Global> {
     /// The items, none before the one above it, that is at half its place.
-    heap: Vec<usize, A>,
+    pub(crate) heap: Vec<usize, A>,
     /// Of each item the place in the heap.
-    places: Vec<usize, A>,
+    pub(crate) places: Vec<usize, A>,
     /// Of each item the timer.
-    timers: Vec<Option<Timer>, A>,
+    pub(crate) timers: Vec<Option<Timer>, A>,
 }
 
 impl<A: Allocator + Copy> Model for TimerQueue<A> {
@@ -92,26 +91,6 @@ impl<A: Allocator + Copy> TimerQueue<A> {
         }
     }
 
-    /// Gives an item this timer, or none; where that is its timer, nothing moves. Takes no memory.
-    // Most timers that are set are those that stand: the caller sees that by itself, and calls only for a
-    // change.
-    #[inline(always)]
-    pub fn set(&mut self, item: usize, timer: Option<Timer>)
-        requires { item < length self.old }
-        ensures { self.new ≡ slice_set self.old item timer }
-    {
-        if self.timers[item] == timer {
-            return;
-        }
-        set_timer(
-            &mut self.heap,
-            &mut self.places,
-            &mut self.timers,
-            item,
-            timer,
-        );
-    }
-
     /// The item whose timer is the least by time, then name.
     #[inline(always)]
     pub fn first(&self) -> Option<usize>
@@ -147,25 +126,6 @@ fn push_item<A: Allocator>(
     heap.push_reserved(item);
     places.push_reserved(item);
     timers.push_reserved(None);
-}
-
-/// Writes the timer of an item, and brings the item to its new place.
-#[inline(always)]
-fn set_timer(
-    heap: &mut [usize],
-    places: &mut [usize],
-    timers: &mut [Option<Timer>],
-    item: usize,
-    timer: Option<Timer>,
-)
-    requires item { item < length timers.old }
-    requires sound { IsSound heap.old places.old timers.old }
-    ensures sound { IsSound heap.new places.new timers.new }
-    ensures set { timers.new ≡ slice_set timers.old item timer }
-{
-    timers[item] = timer;
-    let place = places[item];
-    sift(heap, places, timers, place);
 }
 
 /// The item with the least timer, if one has a timer: the first of the heap.

@@ -1,6 +1,6 @@
 use Rattle.std.proofs.lemmas.List.{length-set}
 use Rattle.timer_queue.proofs.ChangeLemmas.{but-set}
-use Rattle.timer_queue.proofs.queue.set_timer.Goals as goal
+use Rattle.timer_queue.proofs.heap.set_timer.Goals as goal
 
 pub sift-requires-clause-but : goal.sift-requires-clause-but
 sift-requires-clause-but c =
