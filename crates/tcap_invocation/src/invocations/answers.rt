@@ -2,15 +2,17 @@
 
 // Hints to inline: each step of an engine runs through it; docs/PERF.md says what the whole of it inlined gains.
 
-ghost use Rattle.std.specs.Prelude.{◌≡◌, ◌≤◌, is_some};
-ghost use Rattle.tcap_invocation.specs.Invocations.{sent_at};
+ghost use Rattle.std.specs.Prelude.{◌≡◌, ◌≤◌, ◌*◌, Some, is_some, option_copied};
+ghost use Rattle.tcap_invocation.specs.declared.stage.Stage.TheVariants.{Waiting};
+ghost use Rattle.tcap_invocation.specs.Invocations.{at_stage, entry_at, sent_at};
+ghost use Rattle.tcap_invocation.specs.Rows.{AreSorted};
 ghost use Rattle.tcap_invocation.specs.Class.{return_result};
 ghost use Rattle.tcap_invocation.specs.Class.Received.{return_error};
 ghost use Rattle.tcap_invocation.specs.Answers.{verdict_on, after_received, rejected_at, after_reject};
 ghost use Rattle.tcap_invocation.specs.Stage.{moment_limit};
 
 use super::rows::Rows;
-use super::{Invocation, Invocations};
+use super::{Invocation, Invocations, few};
 use crate::stage::Stage;
 use std::alloc::Allocator;
 use tcap_component::Kind;
@@ -86,6 +88,34 @@ impl<A: Allocator + Copy> Invocations<A> {
                 Some(entry.number)
             }
             Kind::Result | Kind::Error => None,
+        }
+    }
+}
+
+impl<A: Allocator + Copy> Rows<A> {
+    /// The invocation that has the identifier.
+    #[inline(always)]
+    pub(super) fn get(&self, id: &i8) -> Option<&Invocation>
+        ensures entry { option_copied result ≡ entry_at self.now id.now }
+        // What all rows keep.
+        ensures sorted { AreSorted self.now }
+    {
+        match &self.many {
+            None => few::get(&self.few, id),
+            Some(many) => many.get(id),
+        }
+    }
+
+    /// The identifier of an invocation that a result or an error closed waits for a Reject.
+    #[inline(always)]
+    pub(super) fn wait(&mut self, id: &i8, entry: Invocation, until: u64)
+        requires until { until ≤ 2 * moment_limit }
+        requires found { sent_at self.old id.now ≡ Some entry }
+        ensures { self.new ≡ at_stage self.old id.now entry (Waiting until) }
+    {
+        match &mut self.many {
+            None => few::set_stage(&mut self.few, id, &entry, Stage::Waiting(until)),
+            Some(many) => many.wait(id, entry, until),
         }
     }
 }

@@ -4,10 +4,12 @@
 
 ghost use Rattle.std.specs.Prelude.{◌≡◌, ◌≢◌, [], ◌∷◌, length, is_some, OnOk, OnErr, IfOk, IfSome};
 ghost use Rattle.tcap_invocation.specs.Invocations.{IsSound, entry_at, passing};
+ghost use Rattle.tcap_invocation.specs.Rows.{AreSorted};
 ghost use Rattle.tcap_invocation.specs.Stage.{is_waiting};
 ghost use Rattle.tcap_invocation.specs.Closing.{given_up_at, after_give_up, after_free_wait, ended_of, ended_at, first_ended_at, after_close_one, after_close};
 
-use super::{Invocation, Invocations};
+use super::rows::Rows;
+use super::{Invocation, Invocations, few};
 use crate::stage::Stage;
 use ber_core::OutOfMemory;
 use std::alloc::Allocator;
@@ -91,6 +93,43 @@ impl<A: Allocator + Copy> Invocations<A> {
         let entry = *self.rows.get(&id)?;
         self.rows.take_out(&id, &entry);
         Some((number, id))
+    }
+}
+
+impl<A: Allocator + Copy> Rows<A> {
+    /// What is told first at the end of the dialogue.
+    #[inline(always)]
+    pub(super) fn first_ended(&self) -> Option<(u64, i8)>
+        ensures told { result ≡ first_ended_at self.now }
+        // What all rows keep.
+        ensures sorted { AreSorted self.now }
+    {
+        match &self.many {
+            None => few::first_ended(&self.few),
+            Some(many) => many.first_ended(),
+        }
+    }
+
+    /// How many invocations are Queued or Sent.
+    #[inline(always)]
+    pub(super) fn ended_count(&self) -> usize
+        ensures { result ≡ length (ended_at self.now) }
+    {
+        match &self.many {
+            None => few::ended_count(&self.few),
+            Some(many) => many.ended_count(),
+        }
+    }
+
+    /// What is told of each invocation at the end of the dialogue, with all room found first.
+    pub(super) fn ended(&self) -> Result<Vec<(u64, i8), A>, OutOfMemory>
+        ensures told { IfOk result (λ v. v.items ≡ ended_at self.now) }
+        ensures memory { OnErr result (ended_at self.now ≢ []) }
+    {
+        match &self.many {
+            None => few::ended(*self.few.allocator(), &self.few),
+            Some(many) => many.ended(),
+        }
     }
 }
 

@@ -2,14 +2,16 @@
 
 // Hints to inline: each step of an engine runs through it; docs/PERF.md says what the whole of it inlined gains.
 
-ghost use Rattle.std.specs.Prelude.{◌≡◌, ◌≢◌, ◌≤◌, [], ◌∷◌, length, OnOk, OnErr, IfOk, IfSome};
-ghost use Rattle.tcap_invocation.specs.Expiries.{RunsOut, first_expiry_at, after_expiry};
-ghost use Rattle.tcap_invocation.specs.Invocations.{IsSound, after_sent};
+ghost use Rattle.std.specs.Prelude.{◌≡◌, ◌≢◌, ◌≤◌, [], ◌∷◌, filter, length, OnOk, OnErr, IfOk, IfSome};
+ghost use Rattle.tcap_invocation.specs.Expiries.{RunsOut, first_expiry_at, after_expiry, rows_after};
+ghost use Rattle.tcap_invocation.specs.Invocations.{IsSound, after_sent, sent_rows};
+ghost use Rattle.tcap_invocation.specs.Rows.{AreSorted};
 ghost use Rattle.tcap_invocation.specs.Stage.{moment_limit};
 ghost use Rattle.tcap_invocation.specs.Timers.{next_timer_at};
-ghost use Rattle.tcap_invocation.specs.Lapses.{due_at, told_at, first_due_at, lapse_of, lapse_at, after_lapse, after_lapse_one, after_free_due};
+ghost use Rattle.tcap_invocation.specs.Lapses.{due_at, told_at, first_due_at, is_held, lapse_of, lapse_at, stays, after_lapse, after_lapse_one, after_free_due};
 
-use super::{Invocation, Invocations};
+use super::rows::Rows;
+use super::{Invocation, Invocations, few, few_lapses};
 use ber_core::OutOfMemory;
 use std::alloc::Allocator;
 
@@ -134,6 +136,90 @@ impl<A: Allocator + Copy> Invocations<A> {
         ensures { self.new ≡ after_free_due self.old clock }
     {
         self.rows.free_due(clock);
+    }
+}
+
+impl<A: Allocator + Copy> Rows<A> {
+    /// The message with the queued Invokes goes out at this moment: each gets its deadline.
+    #[inline(always)]
+    pub(super) fn send_queued(&mut self, clock: u64)
+        requires { clock ≤ moment_limit }
+        ensures { self.new ≡ sent_rows clock self.old }
+    {
+        match &mut self.many {
+            None => few::send_queued(&mut self.few, clock),
+            Some(many) => many.send_queued(clock),
+        }
+    }
+
+    /// The moment at which time next changes something.
+    #[inline(always)]
+    pub(super) fn next_timer(&self) -> Option<u64>
+        ensures { result ≡ next_timer_at self.now }
+    {
+        match &self.many {
+            None => few::next_timer(&self.few),
+            Some(many) => many.next_timer(),
+        }
+    }
+
+    /// How many Sent invocations have a deadline at most the clock.
+    #[inline(always)]
+    pub(super) fn due_count(&self, clock: u64) -> usize
+        ensures { result ≡ length (due_at clock self.now) }
+    {
+        match &self.many {
+            None => few::due_count(&self.few, clock),
+            Some(many) => many.due_count(clock),
+        }
+    }
+
+    /// The first Sent invocation, by deadline, then number, whose deadline is at most the clock.
+    pub(super) fn first_due(&self, clock: u64) -> Option<Lapse>
+        ensures { result ≡ first_due_at clock self.now }
+    {
+        match &self.many {
+            None => few_lapses::first_due(&self.few, clock),
+            Some(many) => many.first_due(clock),
+        }
+    }
+
+    /// Takes out each invocation whose deadline, and each identifier whose wait, is over at the clock, and tells the
+    /// former by deadline, then number.
+    pub(super) fn lapse(&mut self, clock: u64) -> Result<Vec<Lapse, A>, OutOfMemory>
+        ensures told { IfOk result (λ v. v.items ≡ told_at clock self.old) }
+        ensures rows { OnOk result (self.new ≡ filter (λ r. stays clock r.1.stage) self.old) }
+        ensures err { OnErr result (self.new ≡ self.old) }
+        ensures memory { OnErr result (told_at clock self.old ≢ []) }
+    {
+        match &mut self.many {
+            None => few_lapses::lapse(&mut self.few, clock),
+            Some(many) => many.lapse(clock),
+        }
+    }
+
+    /// The first timer runs out, if its moment is at most the clock.
+    #[inline(always)]
+    pub(super) fn expire_first(&mut self, clock: u64) -> Option<Expiry>
+        ensures expiry { result ≡ first_expiry_at clock self.old }
+        ensures rows { self.new ≡ rows_after clock self.old result }
+        // What all rows keep.
+        ensures sorted { AreSorted self.old }
+    {
+        match &mut self.many {
+            None => few::expire_first(&mut self.few, clock),
+            Some(many) => many.expire_first(clock),
+        }
+    }
+
+    /// Takes out each identifier whose wait is over at the clock.
+    pub(super) fn free_due(&mut self, clock: u64)
+        ensures { self.new ≡ filter (λ r. is_held clock r.1.stage) self.old }
+    {
+        match &mut self.many {
+            None => few::free_due(&mut self.few, clock),
+            Some(many) => many.free_due(clock),
+        }
     }
 }
 

@@ -1,20 +1,12 @@
-//! The invocations of a dialogue, by rising number: few one after the other, many by their identifiers.
+//! The invocations of a dialogue, by rising number: few one after the other, many by their identifiers. What is asked of
+//! either stands beside what asks it: answers.rt, closing.rt and lapse.rt.
 
-ghost use Rattle.std.specs.Prelude.{◌≡◌, ◌↔◌, ◌≤◌, ◌*◌, ◌≢◌, ◌++◌, ◌∷◌, [], Some, IsTrue, length, min, filter, option_copied, IfOk, OnOk, OnErr};
-ghost use Rattle.tcap_invocation.specs.declared.stage.Stage.TheVariants.{Waiting};
-ghost use Rattle.tcap_invocation.specs.Closing.{ended_at, first_ended_at};
-ghost use Rattle.tcap_invocation.specs.Expiries.{first_expiry_at, rows_after};
-ghost use Rattle.tcap_invocation.specs.Invocations.{AllBelow, entry_at, sent_at, without, at_stage, sent_rows};
-ghost use Rattle.tcap_invocation.specs.Lapses.{due_at, told_at, first_due_at, is_held, stays};
+ghost use Rattle.std.specs.Prelude.{◌≡◌, ◌↔◌, ◌≤◌, ◌++◌, ◌∷◌, [], Some, IsTrue, length, min, IfOk, OnOk, OnErr};
+ghost use Rattle.tcap_invocation.specs.Invocations.{AllBelow, entry_at, without};
 ghost use Rattle.tcap_invocation.specs.Rows.{AreSorted, IsNew};
-ghost use Rattle.tcap_invocation.specs.Stage.{moment_limit};
-ghost use Rattle.tcap_invocation.specs.Timers.{next_timer_at};
 
 use super::indexed::Indexed;
-use super::lapse::{Expiry, Lapse};
-use super::{Invocation, Row, few, few_lapses};
-use crate::stage::Stage;
-use ber_core::OutOfMemory;
+use super::{Invocation, Row, few};
 use std::alloc::{AllocError, Allocator};
 use std::marker::Model;
 
@@ -28,9 +20,9 @@ const FEW: usize = 8;
 #[derive(Debug, Drop)]
 pub(super) struct Rows<A: Allocator + Copy> {
     /// All of them, while there were never more than a few; else none.
-    few: Vec<Row, A>,
+    pub(super) few: Vec<Row, A>,
     /// All of them, once there were more.
-    many: Option<Box<Indexed<A>, A>>,
+    pub(super) many: Option<Box<Indexed<A>, A>>,
 }
 
 impl<A: Allocator + Copy> Model for Rows<A> {
@@ -86,19 +78,6 @@ impl<A: Allocator + Copy> Rows<A> {
         }
     }
 
-    /// The invocation that has the identifier.
-    #[inline(always)]
-    pub(super) fn get(&self, id: &i8) -> Option<&Invocation>
-        ensures entry { option_copied result ≡ entry_at self.now id.now }
-        // What all rows keep.
-        ensures sorted { AreSorted self.now }
-    {
-        match &self.many {
-            None => few::get(&self.few, id),
-            Some(many) => many.get(id),
-        }
-    }
-
     /// Takes an invocation in that is Queued, under an identifier that is free and a number above all.
     #[inline(always)]
     pub(super) fn push(&mut self, id: i8, entry: Invocation) -> Result<(), AllocError>
@@ -132,101 +111,6 @@ impl<A: Allocator + Copy> Rows<A> {
         }
     }
 
-    /// The identifier of an invocation that a result or an error closed waits for a Reject.
-    #[inline(always)]
-    pub(super) fn wait(&mut self, id: &i8, entry: Invocation, until: u64)
-        requires until { until ≤ 2 * moment_limit }
-        requires found { sent_at self.old id.now ≡ Some entry }
-        ensures { self.new ≡ at_stage self.old id.now entry (Waiting until) }
-    {
-        match &mut self.many {
-            None => few::set_stage(&mut self.few, id, &entry, Stage::Waiting(until)),
-            Some(many) => many.wait(id, entry, until),
-        }
-    }
-
-    /// The message with the queued Invokes goes out at this moment: each gets its deadline.
-    #[inline(always)]
-    pub(super) fn send_queued(&mut self, clock: u64)
-        requires { clock ≤ moment_limit }
-        ensures { self.new ≡ sent_rows clock self.old }
-    {
-        match &mut self.many {
-            None => few::send_queued(&mut self.few, clock),
-            Some(many) => many.send_queued(clock),
-        }
-    }
-
-    /// The moment at which time next changes something.
-    #[inline(always)]
-    pub(super) fn next_timer(&self) -> Option<u64>
-        ensures { result ≡ next_timer_at self.now }
-    {
-        match &self.many {
-            None => few::next_timer(&self.few),
-            Some(many) => many.next_timer(),
-        }
-    }
-
-    /// How many Sent invocations have a deadline at most the clock.
-    #[inline(always)]
-    pub(super) fn due_count(&self, clock: u64) -> usize
-        ensures { result ≡ length (due_at clock self.now) }
-    {
-        match &self.many {
-            None => few::due_count(&self.few, clock),
-            Some(many) => many.due_count(clock),
-        }
-    }
-
-    /// The first Sent invocation, by deadline, then number, whose deadline is at most the clock.
-    pub(super) fn first_due(&self, clock: u64) -> Option<Lapse>
-        ensures { result ≡ first_due_at clock self.now }
-    {
-        match &self.many {
-            None => few_lapses::first_due(&self.few, clock),
-            Some(many) => many.first_due(clock),
-        }
-    }
-
-    /// Takes out each invocation whose deadline, and each identifier whose wait, is over at the clock, and tells the
-    /// former by deadline, then number.
-    pub(super) fn lapse(&mut self, clock: u64) -> Result<Vec<Lapse, A>, OutOfMemory>
-        ensures told { IfOk result (λ v. v.items ≡ told_at clock self.old) }
-        ensures rows { OnOk result (self.new ≡ filter (λ r. stays clock r.1.stage) self.old) }
-        ensures err { OnErr result (self.new ≡ self.old) }
-        ensures memory { OnErr result (told_at clock self.old ≢ []) }
-    {
-        match &mut self.many {
-            None => few_lapses::lapse(&mut self.few, clock),
-            Some(many) => many.lapse(clock),
-        }
-    }
-
-    /// The first timer runs out, if its moment is at most the clock.
-    #[inline(always)]
-    pub(super) fn expire_first(&mut self, clock: u64) -> Option<Expiry>
-        ensures expiry { result ≡ first_expiry_at clock self.old }
-        ensures rows { self.new ≡ rows_after clock self.old result }
-        // What all rows keep.
-        ensures sorted { AreSorted self.old }
-    {
-        match &mut self.many {
-            None => few::expire_first(&mut self.few, clock),
-            Some(many) => many.expire_first(clock),
-        }
-    }
-
-    /// Takes out each identifier whose wait is over at the clock.
-    pub(super) fn free_due(&mut self, clock: u64)
-        ensures { self.new ≡ filter (λ r. is_held clock r.1.stage) self.old }
-    {
-        match &mut self.many {
-            None => few::free_due(&mut self.few, clock),
-            Some(many) => many.free_due(clock),
-        }
-    }
-
     /// Whether each number is below this one.
     #[inline(always)]
     pub(super) fn are_below(&self, number: u64) -> bool
@@ -235,41 +119,6 @@ impl<A: Allocator + Copy> Rows<A> {
         match &self.many {
             None => few::are_below(&self.few, number),
             Some(many) => many.are_below(number),
-        }
-    }
-
-    /// What is told first at the end of the dialogue.
-    #[inline(always)]
-    pub(super) fn first_ended(&self) -> Option<(u64, i8)>
-        ensures told { result ≡ first_ended_at self.now }
-        // What all rows keep.
-        ensures sorted { AreSorted self.now }
-    {
-        match &self.many {
-            None => few::first_ended(&self.few),
-            Some(many) => many.first_ended(),
-        }
-    }
-
-    /// How many invocations are Queued or Sent.
-    #[inline(always)]
-    pub(super) fn ended_count(&self) -> usize
-        ensures { result ≡ length (ended_at self.now) }
-    {
-        match &self.many {
-            None => few::ended_count(&self.few),
-            Some(many) => many.ended_count(),
-        }
-    }
-
-    /// What is told of each invocation at the end of the dialogue, with all room found first.
-    pub(super) fn ended(&self) -> Result<Vec<(u64, i8), A>, OutOfMemory>
-        ensures told { IfOk result (λ v. v.items ≡ ended_at self.now) }
-        ensures memory { OnErr result (ended_at self.now ≢ []) }
-    {
-        match &self.many {
-            None => few::ended(*self.few.allocator(), &self.few),
-            Some(many) => many.ended(),
         }
     }
 }
