@@ -1,21 +1,29 @@
-//! Where the outputs of a call go.
+//! Where the outputs of a call go: what is told, and messages, each written where it is kept.
 
-pub mod sent;
+pub mod taken;
 
-ghost use Rattle.std.specs.Prelude.{◌≡◌, ◌+◌, ◌-◌, ◌^◌, ◌≤◌, ◌<◌, ◌++◌, ◌∷◌, [], true, false, Bool, Option, map, vec_len, vec_capacity, OnOk, OnErr};
+ghost use Rattle.std.specs.Prelude.{◌≡◌, ◌+◌, ◌-◌, ◌^◌, ◌≤◌, ◌<◌, ◌++◌, ◌∷◌, [], None, true, false, Bool, Option, length, map, vec_len, vec_capacity, OnOk, OnErr};
 ghost use Rattle.ber_core.specs.Place.{Slice};
+ghost use Rattle.tcap_model.specs.Words.Output as model;
+ghost use Rattle.tcap_pdu.specs.FrameMeasured.{IsMeasured};
+ghost use Rattle.tcap_pdu.specs.FrameViews.{message};
+ghost use Rattle.tcap_pdu.specs.FrameWritten.{written_frame};
 ghost use Rattle.tcap_primitives.specs.IndicationViews.{indicated, indicated_octets, indicated_slices};
 ghost use Rattle.tcap_primitives.specs.OutputViews.{all_shown};
-ghost use Rattle.tcap_primitives.specs.Slices.{LieIn, LieInPlace, slices_of};
+ghost use Rattle.tcap_primitives.specs.SendingViews.{sending_view};
+ghost use Rattle.tcap_primitives.specs.Slices.{LieIn, LieInPlace, Slices, slices_of};
 ghost use Rattle.tcap_primitives.specs.declared.indication.Indication.TheVariants as indication;
 
 use crate::indication::Indication;
 use crate::outbox::Outbox;
 use crate::output::Output;
+use crate::sending::outgoing::Outgoing;
 use std::alloc::{AllocError, Allocator};
 use std::marker::{Model, PhantomData};
 use std::mem;
+use tcap_address::Address;
 use tcap_component::{Body, Code};
+use tcap_pdu::{Frame, MessageLength, append_frame};
 
 /// Which of the two a sink is.
 pub trait SinkKind {
@@ -94,42 +102,6 @@ impl<'m, A: Allocator + Copy> Sink<'m, A, ToVector> {
         } = self;
         mem::forget(outbox);
         vector
-    }
-}
-
-impl<'m, A: Allocator + Copy> Sink<'m, A, ToOutbox> {
-    /// What this outbox holds and has room for. Until `put_back` an empty one without room stands in its place.
-    #[inline(always)]
-    pub fn take_outbox(alloc: A, place: &mut Outbox<A>) -> Self
-        ensures outputs { result.outputs ≡ place.old.outputs }
-        ensures slices { result.slices ≡ [] }
-        ensures places { result.places ≡ place.old.places }
-        ensures octets { result.octets ≡ place.old.octets }
-        ensures left { (place.new.outputs ≡ []) × (place.new.places ≡ 0) × (place.new.octets ≡ 0) }
-    {
-        Sink {
-            vector: Vec::new(alloc),
-            outbox: mem::replace(place, Outbox::new(alloc)),
-            kind: PhantomData,
-        }
-    }
-
-    /// Puts its outbox into this place.
-    // Answered by value it was moved twice on its way, 10 to 24 instructions a step. The vector of such a sink has no
-    // memory, since each call of such a sink writes to its own half alone: to look for it took 17 to 26.
-    #[inline(always)]
-    pub fn put_back(self, place: &mut Outbox<A>)
-        ensures outputs { place.new.outputs ≡ self.entry.outputs }
-        ensures places { place.new.places ≡ self.entry.places }
-        ensures octets { place.new.octets ≡ self.entry.octets }
-    {
-        let Sink {
-            vector,
-            outbox,
-            kind: _kind,
-        } = self;
-        mem::forget(vector);
-        *place = outbox;
     }
 }
 
@@ -239,5 +211,85 @@ impl<'m, A: Allocator + Copy, K: SinkKind> Sink<'m, A, K> {
                 body,
             });
         }
+    }
+}
+
+// Each message is inlined into its caller. One without a dialogue PDU goes by `send_frame`: by `send`, which has all kinds
+// in it, the caller would grow beyond what the toolchain inlines: then a message took some 200 instructions more.
+impl<'m, A: Allocator + Copy, K: SinkKind> Sink<'m, A, K> {
+    /// Writes a message that goes to this address, of at most 255 octets; there is a place for it.
+    #[inline(always)]
+    pub fn send(&mut self, to: &[u8], message: &Outgoing<'_>) -> Result<(), AllocError>
+        requires to { length to.now ≤ 255 }
+        requires place { 1 ≤ self.old.places }
+        ensures ok { OnOk result (self.new.outputs ≡ self.old.outputs
+            ++ model.Output.send to.now (written_frame (sending_view message.now.sending)) ∷ []) }
+        ensures err { OnErr result (self.new.outputs ≡ self.old.outputs) }
+        ensures places { OnOk result (self.old.places ≤ self.new.places + 1) }
+        ensures place { (portion : Option Slice) (components : Slice)
+            → LieInPlace portion components self.old.slices → LieInPlace portion components self.new.slices }
+    {
+        if K::TO_OUTBOX {
+            return self.outbox.send(to, message);
+        }
+        let mut bytes = Vec::with_capacity(*self.vector.allocator(), message.len())?;
+        message.append(&mut bytes);
+        push_sent(&mut self.vector, to, bytes);
+        Ok(())
+    }
+
+    /// Writes a message as it stands, which is so long, and goes to this address, of at most 255 octets; there is a
+    /// place for it.
+    #[inline(always)]
+    pub fn send_frame(
+        &mut self,
+        to: &[u8],
+        frame: &Frame<'_>,
+        len: MessageLength,
+    ) -> Result<(), AllocError>
+        requires to { length to.now ≤ 255 }
+        requires place { 1 ≤ self.old.places }
+        requires measured { IsMeasured len (message frame.now) None }
+        ensures ok { OnOk result (self.new.outputs ≡ self.old.outputs
+            ++ model.Output.send to.now (written_frame (message frame.now)) ∷ []) }
+        ensures err { OnErr result (self.new.outputs ≡ self.old.outputs) }
+        ensures places { OnOk result (self.old.places ≤ self.new.places + 1) }
+        ensures place { (portion : Option Slice) (components : Slice)
+            → LieInPlace portion components self.old.slices → LieInPlace portion components self.new.slices }
+    {
+        if K::TO_OUTBOX {
+            return self.outbox.send_frame(to, frame, len);
+        }
+        let mut bytes = Vec::with_capacity(*self.vector.allocator(), len.octets())?;
+        append_frame(&mut bytes, frame, len);
+        push_sent(&mut self.vector, to, bytes);
+        Ok(())
+    }
+}
+
+/// Appends a message that is sent to this address, of at most 255 octets, for which there is a place.
+// The address is written where the output stands: one that was made before was copied twice, 256 octets each time, 50
+// instructions a message.
+#[inline(always)]
+fn push_sent<'m, A: Allocator + Copy>(
+    vector: &mut Vec<Output<'m, A>, A>,
+    to: &[u8],
+    bytes: Vec<u8, A>,
+)
+    requires to { length to.now ≤ 255 }
+    requires place { vec_len vector.old < vec_capacity vector.old }
+    ensures outputs { all_shown vector.new.items
+        ≡ all_shown vector.old.items ++ model.Output.send to.now bytes.items ∷ [] }
+    ensures slices { map slices_of vector.new.items ≡ map slices_of vector.old.items ++ Slices.none ∷ [] }
+    ensures len { vec_len vector.new ≡ vec_len vector.old + 1 }
+    ensures capacity { vec_capacity vector.new ≡ vec_capacity vector.old }
+{
+    vector.push_reserved(Output::Send {
+        to: Address::empty(),
+        bytes,
+    });
+    let last = vector.len() - 1;
+    if let Output::Send { to: kept, .. } = &mut vector[last] {
+        kept.hold(to);
     }
 }

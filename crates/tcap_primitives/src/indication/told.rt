@@ -1,11 +1,15 @@
-//! How many octets an indication names.
+//! What an indication tells: the output, and how many octets it names.
 
 // Hints to inline: each step of an engine runs through it; docs/PERF.md says what the whole of it inlined gains.
 
 ghost use Rattle.std.specs.Prelude.{◌≡◌, ◌<◌, ◌^◌};
-ghost use Rattle.tcap_primitives.specs.IndicationViews.{body_octets, code_octets, indicated_octets, optional_octets, pdu_octets};
+ghost use Rattle.tcap_primitives.specs.IndicationViews.{body_octets, code_octets, indicated, indicated_octets, indicated_slices, optional_octets, pdu_octets};
+ghost use Rattle.tcap_primitives.specs.OutputViews.{shown};
+ghost use Rattle.tcap_primitives.specs.Slices.{slices_of};
 
 use super::Indication;
+use crate::output::Output;
+use std::alloc::Allocator;
 use tcap_component::{Body, Code};
 use tcap_pdu::DialoguePdu;
 
@@ -59,6 +63,147 @@ fn pdu_octets(pdu: &Option<DialoguePdu<'_>>) -> usize
 }
 
 impl<'m> Indication<'m> {
+    /// The output that tells it.
+    // Where the indication is known, the match on it folds away, and the output is built in its place.
+    #[inline(always)]
+    pub fn output<A: Allocator>(self) -> Output<'m, A>
+        ensures told { shown result ≡ indicated self.entry }
+        ensures slices { slices_of result ≡ indicated_slices self.entry }
+    {
+        match self {
+            Indication::Uni { context, info } => Output::Uni { context, info },
+            Indication::Begin {
+                dialogue,
+                context,
+                info,
+            } => Output::Begin {
+                dialogue,
+                context,
+                info,
+            },
+            Indication::Continue {
+                dialogue,
+                context,
+                info,
+            } => Output::Continue {
+                dialogue,
+                context,
+                info,
+            },
+            Indication::End {
+                dialogue,
+                context,
+                info,
+            } => Output::End {
+                dialogue,
+                context,
+                info,
+            },
+            Indication::UAbort { dialogue, pdu } => Output::UAbort { dialogue, pdu },
+            Indication::PAbort { dialogue, why } => Output::PAbort { dialogue, why },
+            Indication::Invoked {
+                dialogue,
+                id,
+                linked,
+                code,
+                parameter,
+            } => Output::Invoked {
+                dialogue,
+                id,
+                linked,
+                code,
+                parameter,
+            },
+            Indication::ResultMore {
+                dialogue,
+                number,
+                id,
+                body,
+            } => Output::ResultMore {
+                dialogue,
+                number,
+                id,
+                body,
+            },
+            Indication::LocalReject {
+                dialogue,
+                id,
+                problem,
+            } => Output::LocalReject {
+                dialogue,
+                id,
+                problem,
+            },
+            Indication::RemoteReject {
+                dialogue,
+                id,
+                problem,
+                by,
+            } => Output::RemoteReject {
+                dialogue,
+                id,
+                problem,
+                by,
+            },
+            Indication::ResultLast {
+                dialogue,
+                number,
+                id,
+                body,
+            } => Output::ResultLast {
+                dialogue,
+                number,
+                id,
+                body,
+            },
+            Indication::ErrorBack {
+                dialogue,
+                number,
+                id,
+                code,
+                parameter,
+            } => Output::ErrorBack {
+                dialogue,
+                number,
+                id,
+                code,
+                parameter,
+            },
+            Indication::Rejected {
+                dialogue,
+                number,
+                id,
+                problem,
+                by,
+            } => Output::Rejected {
+                dialogue,
+                number,
+                id,
+                problem,
+                by,
+            },
+            Indication::Lapsed {
+                dialogue,
+                number,
+                id,
+            } => Output::Lapsed {
+                dialogue,
+                number,
+                id,
+            },
+            Indication::Ended {
+                dialogue,
+                number,
+                id,
+            } => Output::Ended {
+                dialogue,
+                number,
+                id,
+            },
+            Indication::Dropped(why) => Output::Dropped(why),
+        }
+    }
+
     /// How many octets it names: those of its slices. It takes no memory.
     #[inline(always)]
     pub fn octet_count(&self) -> usize

@@ -3,7 +3,7 @@ use Rattle.std.proofs.lemmas.List.{map-append}
 use Rattle.tcap_primitives.proofs.LastItem.{set-last, get-last}
 use Rattle.tcap_primitives.specs.OutputViews.{all_shown, shown}
 use Rattle.tcap_primitives.specs.Slices.{slices_of}
-use Rattle.tcap_primitives.proofs.sink.sent.push_sent.Goals as goal
+use Rattle.tcap_primitives.proofs.sink.push_sent.Goals as goal
 
 pub returns-in-Send-clause-outputs : goal.returns-in-Send-clause-outputs
 returns-in-Send-clause-outputs g c =
