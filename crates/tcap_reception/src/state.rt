@@ -117,7 +117,11 @@ impl Phase {
         ensures state { phase_view self.new ≡ model.active (peer_by (phase_view self.old) origin.now) }
         ensures after { result ≡ Open }
     {
-        *self = Phase::Active(self.peer_or(origin).copied());
+        match self {
+            Phase::Fresh | Phase::Sent => *self = Phase::Active(origin.copied()),
+            Phase::Received(peer) => *self = Phase::Active(peer.copied()),
+            Phase::Active(_) => {}
+        }
         After::Open
     }
 
