@@ -44,6 +44,11 @@ abbrev pub StepsInto : List Output → List Output → Result After Fault → Ou
 StepsInto before after (Ok state) o old new = StepsTo before after (is_over state) new o
 StepsInto before after (Err f) o old new = (after ≡ before) × RefusedBy (fault_view f) o old new
 
+-- The same of a request after which the dialogue always is over, or never (own).
+abbrev pub StepsBy : Bool → List Output → List Output → Result (Unit {0}) Fault → Outcome → model.Dialogue → model.Dialogue → Type 0
+StepsBy over before after (Ok done) o old new = StepsTo before after over new o
+StepsBy over before after (Err f) o old new = (after ≡ before) × RefusedBy (fault_view f) o old new
+
 -- An invocation gets a number (own).
 abbrev pub numbered : ℕ → Answer
 numbered number = Answer.number number

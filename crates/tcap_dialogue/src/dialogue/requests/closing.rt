@@ -2,9 +2,9 @@
 
 // Hints to inline have the reasons that requests.rt gives.
 
-ghost use Rattle.std.specs.Prelude.{◌≡◌, ◌≤◌, ◌++◌, ◌||◌, None, Some, IfErr, IfOk, IfSome, OnErr, OnOk, is_some, length, nat_lt, option_copied};
+ghost use Rattle.std.specs.Prelude.{◌≡◌, ◌≤◌, ◌++◌, ◌||◌, None, Some, IfErr, IfOk, IfSome, OnErr, OnOk, is_some, length, nat_lt, option_copied, true};
 ghost use Rattle.std.specs.Option.{option_map};
-ghost use Rattle.tcap_dialogue.specs.RequestForm.{Steps, StepsInto};
+ghost use Rattle.tcap_dialogue.specs.RequestForm.{Steps, StepsBy, StepsInto};
 ghost use Rattle.tcap_dialogue.specs.RequestMessages.{IsUnwritten, early_faults, outgoing_view};
 ghost use Rattle.tcap_dialogue.specs.StepViews.{asked, requested};
 ghost use Rattle.tcap_invocation.specs.Closing.{ended_at};
@@ -19,6 +19,7 @@ ghost use Rattle.tcap_pdu.specs.FrameSpelling.{Message};
 ghost use Rattle.tcap_primitives.specs.FaultViews.{fault_view};
 ghost use Rattle.tcap_primitives.specs.RequestViews.{end_view, ending_view};
 ghost use Rattle.tcap_primitives.specs.SendingViews.{CanSend, sending_view};
+ghost use Rattle.tcap_reception.specs.StateViews.{is_over};
 
 use super::sending::{
     frame_length, gives_any, is_name_good, send, send_frame, within_limit_if_any,
@@ -221,6 +222,7 @@ impl<A: Allocator + Copy> Dialogue<A> {
     ) -> Result<After, Fault>
         ensures step { StepsInto sink.old.outputs sink.new.outputs result
             (requested 0 0 self.old (Request.dialogue (end_view request.now))) self.old self.new }
+        ensures ends { IfOk result (λ after. is_over after ≡ true) }
         ensures kept { self.new.standing.identifier ≡ self.old.standing.identifier }
     {
         self.write_end(request, sink)?;
@@ -252,8 +254,8 @@ impl<A: Allocator + Copy> Dialogue<A> {
         spares: &mut Spares<A>,
         request: &EndRequest<'_>,
         sink: &mut Sink<'m, A, K>,
-    ) -> Result<After, Fault>
-        ensures step { StepsInto sink.old.outputs sink.new.outputs result
+    ) -> Result<(), Fault>
+        ensures step { StepsBy true sink.old.outputs sink.new.outputs result
             (requested 0 0 self.old (Request.dialogue (end_view request.now))) self.old self.new }
         ensures kept { self.new.standing.identifier ≡ self.old.standing.identifier }
     {
@@ -262,7 +264,8 @@ impl<A: Allocator + Copy> Dialogue<A> {
         if sent.is_err() {
             self.leave_queue(spares);
         }
-        sent
+        sent?;
+        Ok(())
     }
 
     /// `send_end`, as a call.

@@ -2,9 +2,9 @@
 
 // Hints to inline have the reasons that requests.rt gives.
 
-ghost use Rattle.std.specs.Prelude.{◌≡◌, ◌≤◌, ◌++◌, None, Some, IfErr, IfOk, OnErr, OnOk, is_some, option_copied};
+ghost use Rattle.std.specs.Prelude.{◌≡◌, ◌≤◌, ◌++◌, None, Some, IfErr, IfOk, OnErr, OnOk, is_some, false, option_copied};
 ghost use Rattle.std.specs.Option.{option_map};
-ghost use Rattle.tcap_dialogue.specs.RequestForm.{Steps, StepsInto};
+ghost use Rattle.tcap_dialogue.specs.RequestForm.{Steps, StepsBy, StepsInto};
 ghost use Rattle.tcap_dialogue.specs.RequestMessages.{IsUnwritten, early_faults, outgoing_view};
 ghost use Rattle.tcap_dialogue.specs.StepViews.{asked, requested};
 ghost use Rattle.tcap_invocation.specs.Stage.{moment_limit};
@@ -16,6 +16,7 @@ ghost use Rattle.tcap_model.specs.Words.Request.{DialogueRequest, Request};
 ghost use Rattle.tcap_primitives.specs.FaultViews.{fault_view};
 ghost use Rattle.tcap_primitives.specs.RequestViews.{continue_view};
 ghost use Rattle.tcap_primitives.specs.SendingViews.{CanSend, sending_view};
+ghost use Rattle.tcap_reception.specs.StateViews.{is_over};
 
 use super::sending::{
     frame_length, gives_any, is_name_good, send, send_frame, within_limit_if_any,
@@ -174,6 +175,7 @@ impl<A: Allocator + Copy> Dialogue<A> {
         requires { clock ≤ moment_limit }
         ensures step { StepsInto sink.old.outputs sink.new.outputs result
             (requested clock 0 self.old (Request.dialogue (continue_view request.now))) self.old self.new }
+        ensures stands { IfOk result (λ after. is_over after ≡ false) }
         ensures kept { self.new.standing.identifier ≡ self.old.standing.identifier }
     {
         self.write_continue(request, sink)?;
@@ -212,15 +214,16 @@ impl<A: Allocator + Copy> Dialogue<A> {
         request: &ContinueRequest<'_>,
         clock: u64,
         sink: &mut Sink<'m, A, K>,
-    ) -> Result<After, Fault>
+    ) -> Result<(), Fault>
         requires { clock ≤ moment_limit }
-        ensures step { StepsInto sink.old.outputs sink.new.outputs result
+        ensures step { StepsBy false sink.old.outputs sink.new.outputs result
             (requested clock 0 self.old (Request.dialogue (continue_view request.now))) self.old self.new }
         ensures kept { self.new.standing.identifier ≡ self.old.standing.identifier }
     {
         let sent = self.send_continue(request, clock, sink);
         self.leave_empty_queue(spares, sent.is_ok());
-        sent
+        sent?;
+        Ok(())
     }
 
     /// `send_continue`, as a call.

@@ -4,7 +4,7 @@
 
 ghost use Rattle.std.specs.Prelude.{◌≡◌, ◌≤◌, ◌++◌, None, Some, IfErr, IfOk, OnErr, OnOk, is_some, false, option_copied, true};
 ghost use Rattle.std.specs.Option.{option_map};
-ghost use Rattle.tcap_dialogue.specs.RequestForm.{Steps, StepsInto};
+ghost use Rattle.tcap_dialogue.specs.RequestForm.{Steps, StepsBy, StepsInto};
 ghost use Rattle.tcap_dialogue.specs.RequestMessages.{IsUnwritten, early_faults, outgoing_view};
 ghost use Rattle.tcap_dialogue.specs.StepViews.{asked, requested};
 ghost use Rattle.tcap_invocation.specs.Stage.{moment_limit};
@@ -18,6 +18,7 @@ ghost use Rattle.tcap_primitives.specs.ContextViews.{context_view};
 ghost use Rattle.tcap_primitives.specs.FaultViews.{fault_view};
 ghost use Rattle.tcap_primitives.specs.RequestViews.{begin_view};
 ghost use Rattle.tcap_primitives.specs.SendingViews.{CanSend, sending_view};
+ghost use Rattle.tcap_reception.specs.StateViews.{is_over};
 
 use super::sending::{
     frame_length, is_name_good, lacks_context, send, send_frame, within_limit_if_any,
@@ -212,6 +213,7 @@ impl<A: Allocator + Copy> Dialogue<A> {
         requires { clock ≤ moment_limit }
         ensures step { StepsInto sink.old.outputs sink.new.outputs result
             (requested clock 0 self.old (Request.dialogue (begin_view request.now))) self.old self.new }
+        ensures stands { IfOk result (λ after. is_over after ≡ false) }
         ensures kept { self.new.standing.identifier ≡ self.old.standing.identifier }
     {
         self.write_begin(request, sink)?;
@@ -250,15 +252,16 @@ impl<A: Allocator + Copy> Dialogue<A> {
         request: &BeginRequest<'_>,
         clock: u64,
         sink: &mut Sink<'m, A, K>,
-    ) -> Result<After, Fault>
+    ) -> Result<(), Fault>
         requires { clock ≤ moment_limit }
-        ensures step { StepsInto sink.old.outputs sink.new.outputs result
+        ensures step { StepsBy false sink.old.outputs sink.new.outputs result
             (requested clock 0 self.old (Request.dialogue (begin_view request.now))) self.old self.new }
         ensures kept { self.new.standing.identifier ≡ self.old.standing.identifier }
     {
         let sent = self.send_begin(request, clock, sink);
         self.leave_empty_queue(spares, sent.is_ok());
-        sent
+        sent?;
+        Ok(())
     }
 
     /// `send_begin`, as a call.
