@@ -146,7 +146,7 @@ pub(crate) fn timer_after<A: Allocator + Copy>(dialogue: &Dialogue<A>, is_over: 
 // One copy serves all calls: a copy in each would fill the cache of instructions, which costs more than the call. That
 // took a tenth to a quarter off its misses. Apart from `take_out`, for which a call saves six registers.
 #[inline(never)]
-fn write_timer<A: Allocator + Copy>(
+pub(crate) fn write_timer<A: Allocator + Copy>(
     rows: &mut Table<Dialogue<A>, A>,
     identifier: u32,
     timer: Option<u64>,
@@ -159,7 +159,7 @@ fn write_timer<A: Allocator + Copy>(
 
 /// Takes out the dialogue of an identifier, which is over; the memory that it leaves is kept.
 #[inline(never)]
-fn take_out<A: Allocator + Copy>(
+pub(crate) fn take_out<A: Allocator + Copy>(
     rows: &mut Table<Dialogue<A>, A>,
     spares: &mut Spares<A>,
     identifier: u32,

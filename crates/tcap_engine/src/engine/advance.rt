@@ -24,7 +24,6 @@ use crate::dialogues::{Dialogues, end_all};
 use std::alloc::Allocator;
 use tcap_dialogue::{Dialogue, Fault, Output, Sink, SinkKind, Timer};
 use tcap_invocation::MAX_MOMENT;
-use tcap_primitives::ranges;
 
 /// How much room the answer to a moment needs.
 #[derive(Clone, Copy)]
@@ -50,7 +49,6 @@ impl<A: Allocator + Copy> Engine<A> {
         // Whatever legal history the engine stood at: the reply, and the history that it stands at then.
         ensures stands { Stands outputs_answer result (Event.moment now) self.old self.new }
     {
-        ranges::long(now);
         match self.pass_if_still(now) {
             Some(Ok(())) => Ok(Vec::new(self.table.allocator())),
             Some(Err(fault)) => Err(fault),

@@ -69,7 +69,6 @@ impl<A: Allocator + Copy> Engine<A> {
             linked,
             timeout_ms,
         };
-        ranges::short(dialogue);
         ranges::request(&Request::Invoke(invoke));
         let number = invoke_in(
             &mut self.table,
@@ -99,7 +98,6 @@ impl<A: Allocator + Copy> Engine<A> {
         ensures err { OnErr result (self.new ≡ self.old) }
     {
         let result = ResultRequest { id, body };
-        ranges::short(dialogue);
         ranges::request(&Request::ResultLast(result));
         result_last_in(&mut self.table, dialogue, self.limits.reject_ms, &result)
     }

@@ -20,7 +20,7 @@ ghost use Rattle.tcap_primitives.specs.RequestViews.{begin_view, continue_view, 
 ghost use Rattle.tcap_primitives.specs.SinkViews.{KeepsOutputs};
 
 use super::Engine;
-use crate::dialogues::{Dialogues, settle, timer_after};
+use crate::dialogues::{Dialogues, take_out, write_timer};
 use std::alloc::Allocator;
 use tcap_dialogue::{
     Address, BeginRequest, ContinueRequest, EndRequest, Ending, Fault, Output, Request, Sink,
@@ -124,7 +124,6 @@ impl<A: Allocator + Copy> Engine<A> {
         ensures stands { Stands (since_answer sink.old.outputs sink.new.outputs) result
             (Event.on_dialogue dialogue (model.Request.dialogue (begin_view request.now))) self.old self.new }
     {
-        ranges::short(dialogue);
         ranges::request(&Request::Begin(*request));
         send_begin_in(&mut self.table, dialogue, self.clock, request, sink)
     }
@@ -147,7 +146,6 @@ impl<A: Allocator + Copy> Engine<A> {
         ensures stands { Stands (since_answer sink.old.outputs sink.new.outputs) result
             (Event.on_dialogue dialogue (model.Request.dialogue (continue_view request.now))) self.old self.new }
     {
-        ranges::short(dialogue);
         ranges::request(&Request::Continue(*request));
         send_continue_in(&mut self.table, dialogue, self.clock, request, sink)
     }
@@ -170,7 +168,6 @@ impl<A: Allocator + Copy> Engine<A> {
         ensures stands { Stands (since_answer sink.old.outputs sink.new.outputs) result
             (Event.on_dialogue dialogue (model.Request.dialogue (end_view request.now))) self.old self.new }
     {
-        ranges::short(dialogue);
         ranges::request(&Request::End(*request));
         send_end_in(&mut self.table, dialogue, request, sink)
     }
@@ -196,16 +193,9 @@ fn send_begin_in<'m, A: Allocator + Copy, K: SinkKind>(
     let Some(dialogue) = table.rows.get_mut(identifier) else {
         return Err(Fault::UnknownDialogue);
     };
-    let after = dialogue.begin_with(&mut table.spares, request, clock, sink)?;
-    let is_over = after.is_over();
-    let timer = timer_after(dialogue, is_over);
-    settle(
-        &mut table.rows,
-        &mut table.spares,
-        identifier,
-        is_over,
-        timer,
-    );
+    dialogue.begin_with(&mut table.spares, request, clock, sink)?;
+    let timer = dialogue.next_timer();
+    write_timer(&mut table.rows, identifier, timer);
     Ok(())
 }
 
@@ -229,16 +219,9 @@ fn send_continue_in<'m, A: Allocator + Copy, K: SinkKind>(
     let Some(dialogue) = table.rows.get_mut(identifier) else {
         return Err(Fault::UnknownDialogue);
     };
-    let after = dialogue.go_on_with(&mut table.spares, request, clock, sink)?;
-    let is_over = after.is_over();
-    let timer = timer_after(dialogue, is_over);
-    settle(
-        &mut table.rows,
-        &mut table.spares,
-        identifier,
-        is_over,
-        timer,
-    );
+    dialogue.go_on_with(&mut table.spares, request, clock, sink)?;
+    let timer = dialogue.next_timer();
+    write_timer(&mut table.rows, identifier, timer);
     Ok(())
 }
 
@@ -260,15 +243,7 @@ fn send_end_in<'m, A: Allocator + Copy, K: SinkKind>(
     let Some(dialogue) = table.rows.get_mut(identifier) else {
         return Err(Fault::UnknownDialogue);
     };
-    let after = dialogue.finish_with(&mut table.spares, request, sink)?;
-    let is_over = after.is_over();
-    let timer = timer_after(dialogue, is_over);
-    settle(
-        &mut table.rows,
-        &mut table.spares,
-        identifier,
-        is_over,
-        timer,
-    );
+    dialogue.finish_with(&mut table.spares, request, sink)?;
+    take_out(&mut table.rows, &mut table.spares, identifier);
     Ok(())
 }

@@ -20,7 +20,6 @@ use tcap_dialogue::{
     AbortRequest, AbortWhy, Address, BeginRequest, ContinueRequest, EndRequest, Ending, Fault,
     Outbox, Request, Sink, UniRequest,
 };
-use tcap_primitives::ranges;
 
 /// In all of these what was in the outbox before stays, and where a call is refused nothing is appended, and the
 /// engine is as it was. An outbox that has room takes no memory.
@@ -58,7 +57,6 @@ impl<A: Allocator + Copy> Engine<A> {
         ensures stands { Stands (since_answer outbox.old.outputs outbox.new.outputs) result (Event.moment now)
             self.old self.new }
     {
-        ranges::long(now);
         // What comes most is a moment at which nothing is due. Nothing is told then, so the outbox stays where it is: to
         // move it took 33 instructions.
         if let Some(answer) = self.pass_if_still(now) {

@@ -192,7 +192,6 @@ impl<A: Allocator + Copy> Engine<A> {
         ensures err { OnErr result (self.new ≡ self.old) }
         ensures still { OnErr result (sink.new.outputs ≡ sink.old.outputs) }
     {
-        ranges::short(dialogue);
         ranges::request(request);
         self.ask(dialogue, request, sink)
     }

@@ -1,10 +1,10 @@
-use Rattle.std.proofs.Common.{rules, ◌≡◌, nat_eq, List, Some, Err, refl}
+use Rattle.std.proofs.Common.{rules, ◌≡◌, nat_eq, true, List, Some, Err, refl}
 use Rattle.std.specs.Map.{lookup}
 use Rattle.tcap_dialogue.proofs.CallerLemmas.{refused-same}
 use Rattle.tcap_dialogue.specs.StepViews.{Outcome, asked, outcome}
 use Rattle.tcap_dialogue.specs.declared.dialogue.requests.Accepted.TheVariants as accepted
 use Rattle.tcap_engine.proofs.AskLemmas.{refused-placed, settled-placed}
-use Rattle.tcap_engine.proofs.TimedLemmas.{timed-still, timed-settled}
+use Rattle.tcap_engine.proofs.TimedLemmas.{timed-still, timed-gone}
 use Rattle.tcap_engine.specs.DialogueEntries.{TableEntry}
 use Rattle.tcap_model.specs.Table.TableMove.{DialogueEvent, table_move}
 use Rattle.tcap_model.specs.Words.Request.{Request}
@@ -14,30 +14,30 @@ use Rattle.tcap_primitives.specs.SinkViews.{told_since}
 use Rattle.timed_table.specs.Row.{entries_of}
 use Rattle.tcap_engine.proofs.engine.dialogue_requests.send_end_in.Goals as goal
 
-pub invariant_of-table-in_err-after : goal.invariant_of-table-in_err-after
+pub invariant_of-table-in_err-finish_with : goal.invariant_of-table-in_err-finish_with
 unfolding table_move
-invariant_of-table-in_err-after g c =
+invariant_of-table-in_err-finish_with g c =
     let old = c.in-Some.dialogue.now in
     let new = c.finish_with.new.self in
     let found : lookup (nat_eq c.args.identifier) (entries_of c.table.inside.rows) ≡ Some old = search rules in
-    let same = refused-same (asked 0 0) (Request.dialogue (end_view c.args.request.now)) old new (fault_view c.in_err-after.field-0.0) c.in_err-after.ensures.step.1 in
+    let same = refused-same (asked 0 0) (Request.dialogue (end_view c.args.request.now)) old new (fault_view c.in_err-finish_with.field-0.0) c.in_err-finish_with.ensures.step.1 in
     rw (c.get_mut.follows.holds new).rows (timed-still c.args.identifier old new c.table.inside.rows found same c.table.invariant)
 
-pub returns-in_err-after-clause-answer : goal.returns-in_err-after-clause-answer
+pub returns-in_err-finish_with-clause-answer : goal.returns-in_err-finish_with-clause-answer
 unfolding table_move
-returns-in_err-after-clause-answer g c clock number =
+returns-in_err-finish_with-clause-answer g c clock number =
     let ps : List TableEntry = entries_of c.table.inside.rows in
     let old = c.in-Some.dialogue.now in
     let new = c.finish_with.new.self in
     let found : lookup (nat_eq c.args.identifier) ps ≡ Some old = search rules in
     let o : Outcome = outcome (table_move (asked clock number) old (DialogueEvent.request (Request.dialogue (end_view c.args.request.now)))) in
-    let is : c.from_residual.result ≡ Err c.in_err-after.field-0.0 = search rules in
-    rw (← c.table.view_is, is, found, (c.get_mut.follows.holds new).entries) (refused-placed o old new c.args.identifier ps found (fault_view c.in_err-after.field-0.0) c.in_err-after.ensures.step.1)
+    let is : c.from_residual.result ≡ Err c.in_err-finish_with.field-0.0 = search rules in
+    rw (← c.table.view_is, is, found, (c.get_mut.follows.holds new).entries) (refused-placed o old new c.args.identifier ps found (fault_view c.in_err-finish_with.field-0.0) c.in_err-finish_with.ensures.step.1)
 
 pub invariant_of-table-2 : goal.invariant_of-table-2
 invariant_of-table-2 g c =
     let new = c.finish_with.new.self in
-    rw (c.settle.ensures.rows, (c.get_mut.follows.holds new).rows) (timed-settled c.is_over-is_over.result c.args.identifier new _ c.table.inside.rows c.timer_after-timer.ensures c.table.invariant)
+    rw (c.take_out.ensures.rows, (c.get_mut.follows.holds new).rows) (timed-gone c.args.identifier new c.table.inside.rows c.table.invariant)
 
 pub returns-clause-answer : goal.returns-clause-answer
 unfolding table_move
@@ -48,5 +48,5 @@ returns-clause-answer g c clock number =
     let found : lookup (nat_eq c.args.identifier) ps ≡ Some old = search rules in
     let o : Outcome = outcome (table_move (asked clock number) old (DialogueEvent.request (Request.dialogue (end_view c.args.request.now)))) in
     rw (← c.table.view_is, found)
-    (settled-placed (told_since c.args.sink.now.outputs c.finish_with.new.sink.outputs) new c.args.identifier ps c.is_over-is_over.result (accepted.Step c.is_over-is_over.result) o (entries_of c.settle.new.rows) (rw c.is_over-is_over.ensures c.in_ok-after.ensures.step.1) refl
-    (rw (c.get_mut.follows.holds new).entries at c.settle.ensures.entries))
+    (settled-placed (told_since c.args.sink.now.outputs c.finish_with.new.sink.outputs) new c.args.identifier ps true (accepted.Step true) o (entries_of c.take_out.new.rows) c.in_ok-finish_with.ensures.step.1 refl
+    (rw (c.get_mut.follows.holds new).entries at c.take_out.ensures.entries))
