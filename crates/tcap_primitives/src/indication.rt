@@ -1,6 +1,6 @@
 //! What the user is told, wherever it is kept.
 
-pub mod told;
+pub mod indicated;
 
 use crate::output::{By, DropWhy, Why};
 use tcap_component::{Body, Code, Problem};

@@ -1,5 +1,5 @@
-//! The invocations of a dialogue, by rising number: few one after the other, many by their identifiers. What is asked of
-//! either stands beside what asks it: answers.rt, closing.rt and lapse.rt.
+//! The invocations of a dialogue, by rising number: few one after the other, many by their identifiers. What answers,
+//! closings and time ask of either stands in answers.rt, closing.rt and lapse.rt.
 
 ghost use Rattle.std.specs.Prelude.{◌≡◌, ◌↔◌, ◌≤◌, ◌++◌, ◌∷◌, [], Some, IsTrue, length, min, IfOk, OnOk, OnErr};
 ghost use Rattle.tcap_invocation.specs.Invocations.{AllBelow, entry_at, without};

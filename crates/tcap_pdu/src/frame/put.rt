@@ -65,7 +65,7 @@ fn put_id<A: Allocator + Copy>(out: &mut Vec<u8, A>, tag: u8, id: &TransId)
 
 /// Appends the transaction identifiers of the message.
 // One arm for each kind of message: where one pattern names a part of several, what it binds is an address, and the
-// message is kept in memory. So it is in `put_closing`, in length.rt and in portions.rt.
+// message is kept in memory. So it is in `put_closing` and in length.rt.
 #[inline(always)]
 fn put_identifiers<A: Allocator + Copy>(out: &mut Vec<u8, A>, frame: &Frame<'_>)
     requires { vec_len out.old + length (written_fields (identifier_fields (message frame.now)))
