@@ -1,4 +1,5 @@
-//! The parts of components, each by its line of the table in Q.773, and the two components that come most, of few octets.
+//! The parts of components, each by its line of the table in Q.773, and the two components that come most, of few
+//! octets.
 
 ghost use Rattle.std.specs.Prelude.{◌≡◌, ◌==◌, ◌+◌, ◌<◌, ◌≤◌, ◌↔◌, ℕ, [], ◌∷◌, false, get_or, is_some, length, Ok, Some, option_copied, IfSome, IsOk, IsTrue};
 ghost use Rattle.std.specs.Option.{option_map};

@@ -21,8 +21,9 @@ fn component_of<'a>(octets: &[u8], content: &'a [u8]) -> Option<Component<'a>>
     }
 }
 
-/// The first component and what follows it, as `read_component` reads them, if it has no fault. Which fault one has isn't
-/// looked for: that takes up to three more readings of its contents, each as long as there are elements in them.
+/// The first component and what follows it, as `read_component` reads them, if it has no fault. Which fault one has
+/// isn't looked for: that takes up to three more readings of its contents, each as long as there are elements in
+/// them.
 // Inlined, so that nothing is built of a component where only what follows it is asked for: as a call it costs a good
 // message 90 instructions.
 #[tactic(auto, unfolding(crate::specs::ComponentReading::component_at))]

@@ -1,4 +1,4 @@
-//! The portions of a message, and how long it is with them before it is written: whether it is short enough.
+//! How long a message is before it is written: whether it is short enough.
 
 ghost use Rattle.std.specs.Prelude.{◌≡◌, ◌↔◌, ◌+◌, ◌^◌, ◌<◌, ◌≤◌, List, ℕ, Option, length, option_map, IsTrue, IfSome, IfNone, None, Some, option_copied};
 ghost use Rattle.tcap_pdu.specs.TransId.{IsTransId};
@@ -19,51 +19,6 @@ use ber_core::{MAX_LENGTH, element_len};
 
 /// The greatest number of bytes of a message that is written: 65,535 (our own).
 pub const MAX_MESSAGE: usize = MAX_LENGTH;
-
-impl<'a> Frame<'a> {
-    ghost use Rattle.std.specs.Prelude.{◌≡◌, IfSome, option_copied};
-    ghost use Rattle.tcap_pdu.specs.FrameLength.{dialogue_of};
-    ghost use Rattle.tcap_pdu.specs.FramePortions.{components_in, dialogue_slice, components_slice};
-    ghost use Rattle.tcap_pdu.specs.FrameViews.{message};
-
-    /// The contents of 6B, the dialogue portion, `None` where there is none (Q.773, Dialogue portion).
-    // One arm for each kind of message, in `components` too: where one pattern names a part of several, what it binds
-    // is an address, and the message is kept in memory.
-    #[inline(always)]
-    pub fn dialogue(&self) -> Option<&'a [u8]>
-        ensures exact { option_copied result ≡ dialogue_of (message self.now) }
-        // It is the slice that the message holds.
-        ensures own { result ≡ dialogue_slice self.now }
-    {
-        match self {
-            Frame::Uni { dialogue, .. } => *dialogue,
-            Frame::Begin { dialogue, .. } => *dialogue,
-            Frame::End { dialogue, .. } => *dialogue,
-            Frame::Continue { dialogue, .. } => *dialogue,
-            Frame::Abort { reason, .. } => match reason {
-                AbortPart::Nothing | AbortPart::Cause(_) => None,
-                AbortPart::Dialogue(content) => Some(*content),
-            },
-        }
-    }
-
-    /// The contents of 6C, the component portion, empty where there is none (Q.773, Component
-    /// portion).
-    #[inline(always)]
-    pub fn components(&self) -> &'a [u8]
-        ensures exact { result.now ≡ components_in (message self.now) }
-        // It is the slice that the message holds.
-        ensures own { IfSome (components_slice self.now) (λ own. result ≡ own) }
-    {
-        match self {
-            Frame::Uni { components, .. } => *components,
-            Frame::Begin { components, .. } => *components,
-            Frame::End { components, .. } => *components,
-            Frame::Continue { components, .. } => *components,
-            Frame::Abort { .. } => &[],
-        }
-    }
-}
 
 /// The bytes of an optional element, `None` where its contents alone are above the limit.
 #[tactic(auto, unfolding(crate::specs::FrameLength::element_length))]

@@ -1,4 +1,4 @@
-//! A message and its parts, appended in the canonical form to a vector that has room for them.
+//! The portions of a message, and the message appended in the canonical form to a vector that has room for it.
 
 ghost use Rattle.std.specs.Prelude.{◌≡◌, ◌+◌, ◌≤◌, ◌++◌, [], ◌∷◌, length, option_copied, vec_len, vec_capacity, None, Some, IfSome, option_map};
 ghost use Rattle.ber_core.specs.Length.{length_limit};
@@ -23,6 +23,51 @@ use crate::tag;
 use crate::trans_id::TransId;
 use ber_core::{put_element, put_few, put_head, put_octet};
 use std::alloc::Allocator;
+
+impl<'a> Frame<'a> {
+    ghost use Rattle.std.specs.Prelude.{◌≡◌, IfSome, option_copied};
+    ghost use Rattle.tcap_pdu.specs.FrameLength.{dialogue_of};
+    ghost use Rattle.tcap_pdu.specs.FramePortions.{components_in, dialogue_slice, components_slice};
+    ghost use Rattle.tcap_pdu.specs.FrameViews.{message};
+
+    /// The contents of 6B, the dialogue portion, `None` where there is none (Q.773, Dialogue portion).
+    // One arm for each kind of message, in `components` too: where one pattern names a part of several, what it binds
+    // is an address, and the message is kept in memory.
+    #[inline(always)]
+    pub fn dialogue(&self) -> Option<&'a [u8]>
+        ensures exact { option_copied result ≡ dialogue_of (message self.now) }
+        // It is the slice that the message holds.
+        ensures own { result ≡ dialogue_slice self.now }
+    {
+        match self {
+            Frame::Uni { dialogue, .. } => *dialogue,
+            Frame::Begin { dialogue, .. } => *dialogue,
+            Frame::End { dialogue, .. } => *dialogue,
+            Frame::Continue { dialogue, .. } => *dialogue,
+            Frame::Abort { reason, .. } => match reason {
+                AbortPart::Nothing | AbortPart::Cause(_) => None,
+                AbortPart::Dialogue(content) => Some(*content),
+            },
+        }
+    }
+
+    /// The contents of 6C, the component portion, empty where there is none (Q.773, Component
+    /// portion).
+    #[inline(always)]
+    pub fn components(&self) -> &'a [u8]
+        ensures exact { result.now ≡ components_in (message self.now) }
+        // It is the slice that the message holds.
+        ensures own { IfSome (components_slice self.now) (λ own. result ≡ own) }
+    {
+        match self {
+            Frame::Uni { components, .. } => *components,
+            Frame::Begin { components, .. } => *components,
+            Frame::End { components, .. } => *components,
+            Frame::Continue { components, .. } => *components,
+            Frame::Abort { .. } => &[],
+        }
+    }
+}
 
 /// The tag of the message type.
 #[inline(always)]
