@@ -214,21 +214,24 @@ impl<'m, A: Allocator + Copy, K: SinkKind> Sink<'m, A, K> {
     }
 }
 
-// Each message is inlined into its caller. One without a dialogue PDU goes by `send_frame`: by `send`, which has all kinds
-// in it, the caller would grow beyond what the toolchain inlines: then a message took some 200 instructions more.
+// Each message is inlined into its caller. A Begin to a short address, a Continue and an End without a dialogue PDU go
+// by `send_frame`: by `send`, which has all kinds in it, their callers would grow beyond what the toolchain inlines:
+// then a message took some 200 instructions more.
 impl<'m, A: Allocator + Copy, K: SinkKind> Sink<'m, A, K> {
-    /// Writes a message that goes to this address, of at most 255 octets; there is a place for it.
+    /// Writes a message that goes to this address, of at most 255 octets, with places for so many outputs more.
     #[inline(always)]
-    pub fn send(&mut self, to: &[u8], message: &Outgoing<'_>) -> Result<(), AllocError>
+    pub fn send(&mut self, to: &[u8], message: &Outgoing<'_>, more: usize) -> Result<(), AllocError>
         requires to { length to.now ≤ 255 }
-        requires place { 1 ≤ self.old.places }
         ensures ok { OnOk result (self.new.outputs ≡ self.old.outputs
             ++ model.Output.send to.now (written_frame (sending_view message.now.sending)) ∷ []) }
         ensures err { OnErr result (self.new.outputs ≡ self.old.outputs) }
         ensures places { OnOk result (self.old.places ≤ self.new.places + 1) }
+        ensures more { OnOk result (more ≤ self.new.places) }
+        ensures within { OnOk result (more < 2 ^ 63) }
         ensures place { (portion : Option Slice) (components : Slice)
             → LieInPlace portion components self.old.slices → LieInPlace portion components self.new.slices }
     {
+        self.reserve(more.saturating_add(1), 0)?;
         if K::TO_OUTBOX {
             return self.outbox.send(to, message);
         }
@@ -238,25 +241,29 @@ impl<'m, A: Allocator + Copy, K: SinkKind> Sink<'m, A, K> {
         Ok(())
     }
 
-    /// Writes a message as it stands, which is so long, and goes to this address, of at most 255 octets; there is a
-    /// place for it.
+    /// Writes a message as it stands, which is so long, and goes to this address, of at most 255 octets, with places
+    /// for so many outputs more.
     #[inline(always)]
     pub fn send_frame(
         &mut self,
         to: &[u8],
         frame: &Frame<'_>,
         len: MessageLength,
+        more: usize,
     ) -> Result<(), AllocError>
         requires to { length to.now ≤ 255 }
-        requires place { 1 ≤ self.old.places }
         requires measured { IsMeasured len (message frame.now) None }
         ensures ok { OnOk result (self.new.outputs ≡ self.old.outputs
             ++ model.Output.send to.now (written_frame (message frame.now)) ∷ []) }
         ensures err { OnErr result (self.new.outputs ≡ self.old.outputs) }
         ensures places { OnOk result (self.old.places ≤ self.new.places + 1) }
+        ensures more { OnOk result (more ≤ self.new.places) }
+        ensures within { OnOk result (more < 2 ^ 63) }
         ensures place { (portion : Option Slice) (components : Slice)
             → LieInPlace portion components self.old.slices → LieInPlace portion components self.new.slices }
     {
+        let count = more.saturating_add(1);
+        self.reserve(count, 0)?;
         if K::TO_OUTBOX {
             return self.outbox.send_frame(to, frame, len);
         }

@@ -154,12 +154,12 @@ fn answer_fault<'m, A: Allocator + Copy, K: SinkKind>(
     ensures within { OnOk result (more < 2 ^ 63) }
     ensures still { OnErr result (sink.new.outputs ≡ sink.old.outputs) }
 {
-    sink.reserve(more.saturating_add(1), 0)?;
-    if let Some(peer) = origin {
-        let cause = Cause::Faulty(fault);
-        sink.send(from.octets(), &Abort::Cause { peer, cause }.outgoing())?;
-    }
-    Ok(())
+    let Some(peer) = origin else {
+        return Ok(sink.reserve(more, 0)?);
+    };
+    let cause = Cause::Faulty(fault);
+    let abort = Abort::Cause { peer, cause };
+    Ok(sink.send(from.octets(), &abort.outgoing(), more)?)
 }
 
 impl<A: Allocator + Copy> Dialogue<A> {
@@ -258,11 +258,11 @@ impl<A: Allocator + Copy> Dialogue<A> {
         ensures place { (portion : Option Slice) (components : Slice) → LieInPlace portion components sink.old.slices
             → LieInPlace portion components sink.new.slices }
     {
+        let more = self.invocations.open_count().saturating_add(1);
         let peer = self.phase.peer_or(origin).copied();
-        let count = self.invocations.open_count().saturating_add(2);
-        sink.reserve(count, 0)?;
         let abort = Abort::Abnormal { peer };
-        sink.send(address_by(&self.phase, &self.kept, from), &abort.outgoing())?;
+        let to = address_by(&self.phase, &self.kept, from);
+        sink.send(to, &abort.outgoing(), more)?;
         let dialogue = self.identifier;
         let why = Why::Abnormal;
         self.tell_over(Indication::PAbort { dialogue, why }, sink);

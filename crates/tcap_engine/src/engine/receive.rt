@@ -221,9 +221,7 @@ impl<A: Allocator + Copy> Engine<A> {
             ++ message_sent to.now (abort_sent abort.now) ∷ []) }
         ensures still { OnErr result (sink.new.outputs ≡ sink.old.outputs) }
     {
-        sink.reserve(1, 0)?;
-        sink.send(to.octets(), &abort.outgoing())?;
-        Ok(())
+        Ok(sink.send(to.octets(), &abort.outgoing(), 0)?)
     }
 
     /// An Abort with a P-Abort cause goes to this address.

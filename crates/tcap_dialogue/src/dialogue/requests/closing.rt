@@ -21,9 +21,7 @@ ghost use Rattle.tcap_primitives.specs.RequestViews.{end_view, ending_view};
 ghost use Rattle.tcap_primitives.specs.SendingViews.{CanSend, sending_view};
 ghost use Rattle.tcap_reception.specs.StateViews.{is_over};
 
-use super::sending::{
-    frame_length, gives_any, is_name_good, send, send_frame, within_limit_if_any,
-};
+use super::sending::{frame_length, gives_any, is_name_good, send, within_limit_if_any};
 use crate::dialogue::ending::tell_ended;
 use crate::dialogue::spares::Spares;
 use crate::dialogue::{Dialogue, Step};
@@ -209,7 +207,7 @@ impl<A: Allocator + Copy> Dialogue<A> {
         };
         let len = frame_length(&frame)?;
         let more = self.invocations.open_count();
-        send_frame(self.kept.octets(), &frame, len, more, sink)?;
+        sink.send_frame(self.kept.octets(), &frame, len, more)?;
         Ok(())
     }
 

@@ -18,9 +18,7 @@ ghost use Rattle.tcap_primitives.specs.RequestViews.{continue_view};
 ghost use Rattle.tcap_primitives.specs.SendingViews.{CanSend, sending_view};
 ghost use Rattle.tcap_reception.specs.StateViews.{is_over};
 
-use super::sending::{
-    frame_length, gives_any, is_name_good, send, send_frame, within_limit_if_any,
-};
+use super::sending::{frame_length, gives_any, is_name_good, send, within_limit_if_any};
 use crate::dialogue::spares::Spares;
 use crate::dialogue::{Dialogue, Step};
 use std::alloc::Allocator;
@@ -160,7 +158,7 @@ impl<A: Allocator + Copy> Dialogue<A> {
             components: self.queue.all_octets(),
         };
         let len = frame_length(&frame)?;
-        send_frame(self.kept.octets(), &frame, len, 0, sink)?;
+        sink.send_frame(self.kept.octets(), &frame, len, 0)?;
         Ok(())
     }
 

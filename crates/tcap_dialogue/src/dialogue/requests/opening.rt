@@ -20,9 +20,7 @@ ghost use Rattle.tcap_primitives.specs.RequestViews.{begin_view};
 ghost use Rattle.tcap_primitives.specs.SendingViews.{CanSend, sending_view};
 ghost use Rattle.tcap_reception.specs.StateViews.{is_over};
 
-use super::sending::{
-    frame_length, is_name_good, lacks_context, send, send_frame, within_limit_if_any,
-};
+use super::sending::{frame_length, is_name_good, lacks_context, send, within_limit_if_any};
 use crate::dialogue::kept_address::{Names, is_short, keep_short};
 use crate::dialogue::spares::Spares;
 use crate::dialogue::{Dialogue, Step};
@@ -139,7 +137,7 @@ impl<A: Allocator + Copy> Dialogue<A> {
             components: self.queue.all_octets(),
         };
         let len = frame_length(&frame)?;
-        Ok(send_frame(request.to.octets(), &frame, len, 0, sink)?)
+        Ok(sink.send_frame(request.to.octets(), &frame, len, 0)?)
     }
 
     /// Judges a Begin and writes it: the names that the dialogue is to keep, for which memory is found first.

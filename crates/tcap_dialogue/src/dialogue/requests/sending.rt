@@ -1,5 +1,5 @@
 //! What the requests of dialogue handling share: how their dialogue portion is judged, and how their message is
-//! written and sent.
+//! measured and sent.
 
 // Hints to inline have the reasons that requests.rt gives.
 
@@ -176,10 +176,7 @@ pub(super) fn send<'m, A: Allocator + Copy, K: SinkKind>(
 {
     match message {
         None => Ok(sink.reserve(more, 0)?),
-        Some(message) => {
-            sink.reserve(more.saturating_add(1), 0)?;
-            Ok(sink.send(to, &message)?)
-        }
+        Some(message) => Ok(sink.send(to, &message, more)?),
     }
 }
 
@@ -191,25 +188,4 @@ pub(super) fn frame_length(frame: &Frame<'_>) -> Result<MessageLength, Fault>
     ensures err { IfErr result (λ f. (f ≡ fault.TooLong) × (passes_message (Some (message frame.now)) ≡ true)) }
 {
     own_length(frame).ok_or(Fault::TooLong)
-}
-
-/// Sends a message as it stands, which is so long, to an address, of at most 255 octets, with places for so many
-/// outputs more.
-#[inline(always)]
-pub(super) fn send_frame<'m, A: Allocator + Copy, K: SinkKind>(
-    to: &[u8],
-    frame: &Frame<'_>,
-    len: MessageLength,
-    more: usize,
-    sink: &mut Sink<'m, A, K>,
-) -> Result<(), OutOfMemory>
-    requires to { length to.now ≤ 255 }
-    requires measured { IsMeasured len (message frame.now) None }
-    ensures ok { OnOk result (sink.new.outputs ≡ sink.old.outputs
-        ++ sent_if_any to.now (Some (message frame.now))) }
-    ensures places { OnOk result (more ≤ sink.new.places) }
-    ensures still { OnErr result (sink.new.outputs ≡ sink.old.outputs) }
-{
-    sink.reserve(more.saturating_add(1), 0)?;
-    Ok(sink.send_frame(to, frame, len)?)
 }
