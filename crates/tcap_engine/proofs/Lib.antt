@@ -13,6 +13,7 @@ pub mod LeastLemmas
 pub mod MessageLengthLemmas
 pub mod MomentLemmas
 pub mod MomentTellsLemmas
+pub mod NamedEngine
 pub mod NextTimerLemmas
 pub mod NumberLemmas
 pub mod OrderLemmas

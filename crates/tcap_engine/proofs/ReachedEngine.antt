@@ -1,11 +1,12 @@
 -- The engine after a message, or a faulty one, reached one of its dialogues.
-use Rattle.std.proofs.Common.{◌≡◌, ℕ, ◌++◌, [], true, nat_eq, List, append_assoc, Option, Some, None, Ok, Err, refl, ap, sym, ◌∙◌, subst, arith}
-use Rattle.std.specs.Prelude.{IfOk, OnOk, OnErr, IsSome, Result}
+use Rattle.std.proofs.Common.{◌≡◌, ℕ, Bool, false, if◌then◌else◌, ◌++◌, [], true, nat_eq, List, append_assoc, Option, Some, None, Ok, Err, refl, ap, sym, ◌∙◌, subst, arith}
+use Rattle.std.specs.Option.{option_map}
+use Rattle.std.specs.Prelude.{IfOk, OnOk, OnErr, Result}
 use Rattle.std.specs.Map.{lookup}
 use Rattle.ber_core.specs.declared.fault.OutOfMemory.{OutOfMemory}
 use Rattle.tcap_dialogue.specs.StepViews.{asked, at_clock, outcome}
-use Rattle.tcap_engine.specs.StepForm.{Moves, ReceivesInto, since_answer}
-use Rattle.tcap_engine.specs.RequestInTable.{EntriesMove, DeliversInTable}
+use Rattle.tcap_engine.specs.StepForm.{DeliversTo, IfTaken, Moves, ReceivesInto, UnlessTaken, since_answer}
+use Rattle.tcap_engine.specs.RequestInTable.{EntriesMove, DeliversInTable, TakesInTable}
 use Rattle.tcap_engine.specs.DialogueEntries.{TableEntry, AreFrom, IsSound, IsWithin, dialogues_of, entries_with}
 use Rattle.tcap_engine.specs.declared.limits.Limits.{Limits}
 use Rattle.tcap_engine.proofs.AskedEngine.{kept-left}
@@ -141,10 +142,41 @@ module _ (limits : Limits) (next_dialogue number clock d : ℕ) (ps : List Table
   receives-told before after (Err f) qs h kept still = (still, ap engine_of h)
   receives-told {T} before after (Ok t) qs h kept still = (kept, reached-sending (λ (x : T). told_since before after) [] (Ok t) qs h)
 
--- A dialogue that is live stands.
-pub live-found : (d : ℕ) (ps : List TableEntry) → AreFrom 0 ps → is_live_in (dialogues_of ps) d ≡ true → IsSome (lookup (nat_eq d) ps)
-live-found d ps from live = go (lookup (nat_eq d) ps) (sym (ap is_live_if_any (found-in d 0 ps from)) ∙ live)
-  where
-    go : (o : Option Dialogue) → is_live_if_any o ≡ true → IsSome o
-    go None e = absurd cc
-    go (Some x) e = refl
+  -- Whether a dialogue took it or not, the engine is sound.
+  pub sound-taken : (view : Bool → List Output) (live : Bool) (result : Result Bool OutOfMemory) (qs : List TableEntry)
+      → TakesInTable (λ (t : Bool). Answer.outputs (view t)) result live (λ x. outcome (move x)) d (lookup (nat_eq d) ps) ps qs → IsSound limits next_dialogue number clock qs
+  sound-taken view live (Err f) qs h = subst (λ (qs : List TableEntry). IsSound limits next_dialogue number clock qs) (sym h) sound
+  sound-taken view true (Ok true) qs h = sound-reached view (Ok true) qs h
+  sound-taken view true (Ok false) qs h = absurd h
+  sound-taken view false (Ok true) qs h = absurd h
+  sound-taken view false (Ok false) qs h = subst (λ (qs : List TableEntry). IsSound limits next_dialogue number clock qs) (sym h) sound
+
+  -- What was appended where a dialogue took it, behind what is sent first.
+  pub delivers-sending : (before after sent : List Output) (live : Bool) (result : Result Bool OutOfMemory) (qs : List TableEntry)
+      → TakesInTable (since_answer (before ++ sent) after) result live (λ x. outcome (move x)) d (lookup (nat_eq d) ps) ps qs
+      → IfTaken result (KeepsOutputs (before ++ sent) after) → UnlessTaken result (after ≡ before)
+      → DeliversTo before after result
+      (option_map (λ (e : ℕ). reached_in (engine_of ps) e sent event (dialogue_in e (dialogues_of ps))) (if live then Some d else None))
+      (engine_of ps) (engine_of qs)
+  delivers-sending before after sent live (Err f) qs h kept still = (still, ap engine_of h)
+  delivers-sending before after sent true (Ok true) qs h kept still = receives-sending before after sent (Ok true) qs h kept tt
+  delivers-sending before after sent true (Ok false) qs h kept still = absurd h
+  delivers-sending before after sent false (Ok true) qs h kept still = absurd h
+  delivers-sending before after sent false (Ok false) qs h kept still = (still, ap engine_of h)
+
+  -- The same where nothing is sent first.
+  pub delivers-told : (before after : List Output) (live : Bool) (result : Result Bool OutOfMemory) (qs : List TableEntry)
+      → TakesInTable (since_answer before after) result live (λ x. outcome (move x)) d (lookup (nat_eq d) ps) ps qs
+      → KeepsOutputs before after → UnlessTaken result (after ≡ before)
+      → DeliversTo before after result
+      (option_map (λ (e : ℕ). reached_in (engine_of ps) e [] event (dialogue_in e (dialogues_of ps))) (if live then Some d else None))
+      (engine_of ps) (engine_of qs)
+  delivers-told before after live (Err f) qs h kept still = (still, ap engine_of h)
+  delivers-told before after true (Ok true) qs h kept still = receives-told before after (Ok true) qs h kept tt
+  delivers-told before after true (Ok false) qs h kept still = absurd h
+  delivers-told before after false (Ok true) qs h kept still = absurd h
+  delivers-told before after false (Ok false) qs h kept still = (still, ap engine_of h)
+
+-- Whether a dialogue stands and is live, by the table.
+pub live-is : (d : ℕ) (ps : List TableEntry) → AreFrom 0 ps → is_live_if_any (lookup (nat_eq d) ps) ≡ is_live_in (dialogues_of ps) d
+live-is d ps from = ap is_live_if_any (sym (found-in d 0 ps from))

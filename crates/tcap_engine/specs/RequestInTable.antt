@@ -89,3 +89,12 @@ abbrev pub DeliversInTable : {T : Type 0} → (T → Answer) → Result T OutOfM
 DeliversInTable view (Err refused) says d dialogue old new = new ≡ old
 DeliversInTable view (Ok outputs) says d None old new = ⊥
 DeliversInTable view (Ok outputs) says d (Some dialogue) old new = EntriesMove (says dialogue) d (view outputs) old new
+
+-- What a table gives where a message may reach one of its dialogues: whether that is live, and what it says then; where
+-- it isn't, or memory was refused, nothing changes (own).
+abbrev pub TakesInTable : (Bool → Answer) → Result Bool OutOfMemory → Bool → (Dialogue → Outcome) → ℕ → Option Dialogue → List TableEntry → List TableEntry → Type 0
+TakesInTable view (Err refused) live says d dialogue old new = new ≡ old
+TakesInTable view (Ok true) true says d dialogue old new = DeliversInTable view (Ok true) says d dialogue old new
+TakesInTable view (Ok true) false says d dialogue old new = ⊥
+TakesInTable view (Ok false) true says d dialogue old new = ⊥
+TakesInTable view (Ok false) false says d dialogue old new = new ≡ old

@@ -9,7 +9,6 @@ ghost use Rattle.std.specs.Map.{lookup, remove_entry};
 ghost use Rattle.tcap_engine.specs.DialogueEntries.{AreDrawn, AreFrom};
 ghost use Rattle.tcap_engine.specs.IdleDialogues.{AreDistinct, idle_end_in, without_all};
 ghost use Rattle.tcap_engine.specs.Lapsing.{timer_of};
-ghost use Rattle.tcap_model.specs.Table.EngineMove.{is_live_if_any};
 ghost use Rattle.timed_table.specs.Row.{entries_of, with_time, without};
 
 use ber_core::OutOfMemory;
@@ -71,19 +70,6 @@ impl<A: Allocator + Copy> Dialogues<A> {
         ensures { option_copied result ≡ lookup (nat_eq identifier) self.now }
     {
         self.rows.get(identifier)
-    }
-
-    /// Whether the dialogue with an identifier stands and is live; a call for the same one that follows finds it at
-    /// once.
-    #[inline(always)]
-    pub(crate) fn is_live(&mut self, identifier: u32) -> bool
-        ensures live { result ≡ is_live_if_any (lookup (nat_eq identifier) self.old) }
-        ensures same { self.new ≡ self.old }
-    {
-        let Some(dialogue) = self.rows.get_mut(identifier) else {
-            return false;
-        };
-        dialogue.is_live()
     }
 
     /// Takes in a dialogue that has no timer yet, under an identifier above all others. All memory that its

@@ -1,18 +1,19 @@
 //! Bytes that are no message that can be read.
 
-ghost use Rattle.std.specs.Prelude.{◌≡◌, true, ◌++◌, nat_eq, OnOk, OnErr, IsSome};
-ghost use Rattle.tcap_engine.specs.StepForm.{ReceivesInto, since_answer};
-ghost use Rattle.tcap_model.specs.Procedures.Reception.{aborted_or_dropped, fault_abort, faulty};
-ghost use Rattle.tcap_model.specs.Table.EngineMove.{is_live_in, received_in, dialogue_in, reached_in};
-ghost use Rattle.tcap_model.specs.Procedures.AbortRules.{fault_cause, sent_if_any};
-ghost use Rattle.tcap_model.specs.Table.TableMove.{DialogueEvent, table_move};
+ghost use Rattle.std.specs.Prelude.{◌≡◌, Some, ◌++◌, nat_eq};
 ghost use Rattle.std.specs.Map.{lookup};
+ghost use Rattle.std.specs.Option.{option_map};
 ghost use Rattle.tcap_dialogue.specs.StepViews.{at_clock, outcome};
-ghost use Rattle.tcap_engine.specs.RequestInTable.{DeliversInTable};
+ghost use Rattle.tcap_engine.specs.RequestInTable.{TakesInTable};
+ghost use Rattle.tcap_engine.specs.StepForm.{DeliversTo, IfTaken, ReceivesInto, UnlessTaken, fault_reached, since_answer};
+ghost use Rattle.tcap_model.specs.Procedures.AbortRules.{fault_cause, sent_if_any};
+ghost use Rattle.tcap_model.specs.Procedures.Reception.{aborted_or_dropped, addressed_if_any, fault_abort, faulty, live_named};
+ghost use Rattle.tcap_model.specs.Table.EngineMove.{is_live_if_any, is_live_in, received_in};
+ghost use Rattle.tcap_model.specs.Table.TableMove.{DialogueEvent, table_move};
 ghost use Rattle.tcap_primitives.specs.SinkViews.{KeepsOutputs};
 
 use super::Engine;
-use crate::dialogues::{Dialogues, settle};
+use crate::dialogues::{Dialogues, take_out};
 use ber_core::OutOfMemory;
 use std::alloc::Allocator;
 use tcap_dialogue::{Address, Cause, DropWhy, Sink, SinkKind};
@@ -36,21 +37,21 @@ impl<A: Allocator + Copy> Engine<A> {
             (faulty (is_live_in self.old.dialogues) bytes.now fault)) self.old self.new }
     {
         let (origin, named) = front_ids(bytes);
-        let live = match &named {
-            Some(named) => self.live_named(named),
-            None => None,
-        };
-        match (bytes, live) {
-            ([END | ABORT, ..], Some(dialogue)) => self.abort_by_fault(
-                dialogue, from, None, fault, sink,
-            ),
-            ([CONTINUE, ..], Some(dialogue)) => self.abort_by_fault(
-                dialogue, from, origin, fault, sink,
-            ),
-            ([UNIDIRECTIONAL | END | ABORT, ..] | [], _) => {
+        match bytes {
+            [END | ABORT, ..] => {
+                if self.abort_by_fault(&named, from, &None, fault, sink)? {
+                    return Ok(());
+                }
                 self.drop_message(DropWhy::BadMessage, sink)
             }
-            ([_, ..], _) => self.abort_or_drop(from, origin, fault, sink),
+            [CONTINUE, ..] => {
+                if self.abort_by_fault(&named, from, &origin, fault, sink)? {
+                    return Ok(());
+                }
+                self.abort_or_drop(from, origin, fault, sink)
+            }
+            [UNIDIRECTIONAL, ..] | [] => self.drop_message(DropWhy::BadMessage, sink),
+            [_, ..] => self.abort_or_drop(from, origin, fault, sink),
         }
     }
 
@@ -72,46 +73,82 @@ impl<A: Allocator + Copy> Engine<A> {
         }
     }
 
-    /// A faulty message ends a live dialogue; an Abort with the fault's cause goes first to the address that it
-    /// came from, if the originator is known (our own, after Q.774, Abnormal procedures).
+    /// A faulty message ends the live dialogue that it names; an Abort with the fault's cause goes first to the address
+    /// that it came from, if the originator is known. Whether it names one (our own, after Q.774, Abnormal procedures).
     fn abort_by_fault<'m, K: SinkKind>(
+        &mut self,
+        named: &Option<TransId>,
+        from: &Address,
+        origin: &Option<TransId>,
+        fault: FrameFault,
+        sink: &mut Sink<'m, A, K>,
+    ) -> Result<bool, OutOfMemory>
+        ensures { DeliversTo sink.old.outputs sink.new.outputs result
+            (option_map (fault_reached self.old from.now (fault_abort fault origin.now) fault)
+            (addressed_if_any (is_live_in self.old.dialogues) named.now)) self.old self.new }
+    {
+        let Some(named) = named else {
+            return Ok(false);
+        };
+        match named.as_u32() {
+            None => Ok(false),
+            Some(identifier) => self.end_by_fault(identifier, from, origin, fault, sink),
+        }
+    }
+
+    /// `abort_by_fault`, of the dialogue of an identifier, if it is live; whether it was.
+    fn end_by_fault<'m, K: SinkKind>(
         &mut self,
         identifier: u32,
         from: &Address,
-        origin: Option<TransId>,
+        origin: &Option<TransId>,
         fault: FrameFault,
         sink: &mut Sink<'m, A, K>,
-    ) -> Result<(), OutOfMemory>
-        requires { is_live_in self.old.dialogues identifier ≡ true }
-        ensures { ReceivesInto sink.old.outputs sink.new.outputs result
-            (reached_in self.old identifier (sent_if_any from.now (fault_abort fault origin))
-            (DialogueEvent.fault (fault_cause fault)) (dialogue_in identifier self.old.dialogues)) self.old self.new }
+    ) -> Result<bool, OutOfMemory>
+        ensures { DeliversTo sink.old.outputs sink.new.outputs result
+            (option_map (fault_reached self.old from.now (fault_abort fault origin.now) fault)
+            (live_named (is_live_in self.old.dialogues) (Some identifier))) self.old self.new }
     {
-        abort_in(&mut self.table, identifier, from, origin, fault, sink)
+        end_in(&mut self.table, identifier, from, origin, fault, sink)
     }
 }
 
-/// A faulty message names the dialogue of an identifier, which is over then and is taken out.
-fn abort_in<'m, A: Allocator + Copy, K: SinkKind>(
+/// A faulty message names the dialogue of an identifier, which is over then and is taken out, if it is live; whether it
+/// was.
+fn end_in<'m, A: Allocator + Copy, K: SinkKind>(
     table: &mut Dialogues<A>,
     identifier: u32,
     from: &Address,
-    origin: Option<TransId>,
+    origin: &Option<TransId>,
     fault: FrameFault,
     sink: &mut Sink<'m, A, K>,
-) -> Result<(), OutOfMemory>
-    requires { IsSome (lookup (nat_eq identifier) table.old) }
-    ensures reached { DeliversInTable (since_answer (sink.old.outputs
-        ++ sent_if_any from.now (fault_abort fault origin)) sink.new.outputs) result
+) -> Result<bool, OutOfMemory>
+    ensures reached { TakesInTable (since_answer (sink.old.outputs
+        ++ sent_if_any from.now (fault_abort fault origin.now)) sink.new.outputs) result
+        (is_live_if_any (lookup (nat_eq identifier) table.old))
         (λ x. outcome (table_move (at_clock 0) x (DialogueEvent.fault (fault_cause fault)))) identifier
         (lookup (nat_eq identifier) table.old) table.old table.new }
-    ensures kept { OnOk result (KeepsOutputs (sink.old.outputs
-        ++ sent_if_any from.now (fault_abort fault origin)) sink.new.outputs) }
-    ensures still { OnErr result (sink.new.outputs ≡ sink.old.outputs) }
+    ensures kept { IfTaken result (KeepsOutputs (sink.old.outputs
+        ++ sent_if_any from.now (fault_abort fault origin.now)) sink.new.outputs) }
+    ensures still { UnlessTaken result (sink.new.outputs ≡ sink.old.outputs) }
 {
-    // It stands, as the caller has seen; see `deliver_in` of receive.rt.
-    let dialogue = table.rows.get_mut(identifier).unwrap();
-    dialogue.take_faulty(from, origin, fault, sink)?;
-    settle(&mut table.rows, &mut table.spares, identifier, true, None);
-    Ok(())
+    let Some(dialogue) = table.rows.get_mut(identifier) else {
+        return Ok(false);
+    };
+    if !dialogue.is_live() {
+        return Ok(false);
+    }
+    dialogue.take_faulty(from, copied_if_any(origin), fault, sink)?;
+    take_out(&mut table.rows, &mut table.spares, identifier);
+    Ok(true)
+}
+
+/// A second identifier of the same octets, if there is one.
+fn copied_if_any(id: &Option<TransId>) -> Option<TransId>
+    ensures { result ≡ id.now }
+{
+    match id {
+        None => None,
+        Some(id) => Some(id.copied()),
+    }
 }
