@@ -4,7 +4,6 @@
 
 pub(crate) mod advance;
 pub(crate) mod component_requests;
-pub(crate) mod counts;
 pub(crate) mod creation;
 pub(crate) mod dialogue_requests;
 pub(crate) mod events;

@@ -14,7 +14,6 @@ ghost use Rattle.tcap_primitives.specs.SendingViews.{sending_view};
 ghost use Rattle.tcap_primitives.specs.Slices.{LieIn, LieInPlace, Slices, slices_of};
 ghost use Rattle.tcap_primitives.specs.declared.indication.Indication.TheVariants as indication;
 
-use crate::indication::Indication;
 use crate::outbox::Outbox;
 use crate::output::Output;
 use crate::sending::outgoing::Outgoing;
@@ -58,8 +57,8 @@ impl SinkKind for ToOutbox {
 // allocator.
 #[derive(Drop)]
 pub struct Sink<'m, A: Allocator + Copy, K: SinkKind> {
-    vector: Vec<Output<'m, A>, A>,
-    outbox: Outbox<A>,
+    pub(crate) vector: Vec<Output<'m, A>, A>,
+    pub(crate) outbox: Outbox<A>,
     kind: PhantomData<K>,
 }
 
@@ -105,8 +104,7 @@ impl<'m, A: Allocator + Copy> Sink<'m, A, ToVector> {
     }
 }
 
-// All of it is copied to its caller, where the indication is known: the match on it folds away, and the output is
-// built in its place.
+// All of it is copied to its caller: the output is built in its place.
 impl<'m, A: Allocator + Copy, K: SinkKind> Sink<'m, A, K> {
     /// Makes places for so many outputs, whose indications name so many octets. Nothing takes no memory.
     #[inline(always)]
@@ -129,25 +127,6 @@ impl<'m, A: Allocator + Copy, K: SinkKind> Sink<'m, A, K> {
         }
         // It is made for one call, and takes what this needs.
         self.vector.reserve_exact(count)
-    }
-
-    /// Appends an indication, for which there is room.
-    #[inline(always)]
-    pub fn tell(&mut self, indication: Indication<'m>)
-        requires place { 1 ≤ self.old.places }
-        requires octets { indicated_octets indication ≤ self.old.octets }
-        ensures told { self.new.outputs ≡ self.old.outputs ++ indicated indication.entry ∷ [] }
-        ensures places { self.old.places ≤ self.new.places + 1 }
-        ensures octets { self.old.octets ≤ self.new.octets + indicated_octets indication.entry }
-        ensures place { (portion : Option Slice) (components : Slice)
-            → LieIn portion components (indicated_slices indication.entry)
-            → LieInPlace portion components self.old.slices → LieInPlace portion components self.new.slices }
-    {
-        if K::TO_OUTBOX {
-            self.outbox.tell(indication);
-        } else {
-            self.vector.push_reserved(indication.output());
-        }
     }
 
     /// Appends a TC-INVOKE indication, for which there is room.

@@ -9,7 +9,6 @@ ghost use Rattle.std.specs.Ordering.{int_eq};
 ghost use Rattle.tcap_invocation.specs.Closing.{ended_at, first_ended_at};
 ghost use Rattle.tcap_invocation.specs.Invocations.{AllBelow, AreInOrder, entry_at, without, at_stage, sent_rows};
 ghost use Rattle.tcap_invocation.specs.Stage.{moment_limit};
-ghost use Rattle.tcap_invocation.specs.Timers.{next_timer_at};
 ghost use Rattle.tcap_invocation.specs.Lapses.{due_at, is_held};
 ghost use Rattle.tcap_invocation.specs.TimerList.{nearer_at, IsFirst, timers_at, lapse_at_time};
 ghost use Rattle.tcap_invocation.specs.Order.{first_of};
@@ -170,24 +169,6 @@ pub(super) fn ended<A: Allocator + Copy>(
         }
     }
     Ok(ended)
-}
-
-/// The moment at which time next changes something.
-#[inline(always)]
-pub(super) fn next_timer(rows: &[Row]) -> Option<u64>
-    ensures { result ≡ next_timer_at rows.now }
-{
-    let mut least: Option<u64> = None;
-    for row in rows {
-        let time = match row.1.stage {
-            Stage::Queued(_) => continue,
-            Stage::Sent(time) | Stage::Waiting(time) => time,
-        };
-        if least.is_none_or(|least| time < least) {
-            least = Some(time);
-        }
-    }
-    least
 }
 
 /// How many Sent invocations have a deadline at most the clock.

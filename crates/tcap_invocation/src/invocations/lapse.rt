@@ -11,7 +11,8 @@ ghost use Rattle.tcap_invocation.specs.Timers.{next_timer_at};
 ghost use Rattle.tcap_invocation.specs.Lapses.{due_at, told_at, first_due_at, is_held, lapse_of, lapse_at, stays, after_lapse, after_lapse_one, after_free_due};
 
 use super::rows::Rows;
-use super::{Invocation, Invocations, few, few_lapses};
+use super::{Invocation, Invocations, Row, few, few_lapses};
+use crate::stage::Stage;
 use ber_core::OutOfMemory;
 use std::alloc::Allocator;
 
@@ -158,7 +159,7 @@ impl<A: Allocator + Copy> Rows<A> {
         ensures { result ≡ next_timer_at self.now }
     {
         match &self.many {
-            None => few::next_timer(&self.few),
+            None => next_timer_of(&self.few),
             Some(many) => many.next_timer(),
         }
     }
@@ -221,6 +222,24 @@ impl<A: Allocator + Copy> Rows<A> {
             Some(many) => many.free_due(clock),
         }
     }
+}
+
+/// The moment at which time next changes something in few invocations.
+#[inline(always)]
+fn next_timer_of(rows: &[Row]) -> Option<u64>
+    ensures { result ≡ next_timer_at rows.now }
+{
+    let mut least: Option<u64> = None;
+    for row in rows {
+        let time = match row.1.stage {
+            Stage::Queued(_) => continue,
+            Stage::Sent(time) | Stage::Waiting(time) => time,
+        };
+        if least.is_none_or(|least| time < least) {
+            least = Some(time);
+        }
+    }
+    least
 }
 
 /// What is told of an invocation, if its deadline is at most the clock.

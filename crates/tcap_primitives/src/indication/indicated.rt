@@ -1,14 +1,16 @@
-//! What an indication tells: the output, and how many octets it names.
+//! What an indication tells: the output, how many octets it names, and how it is told to a sink.
 
 // Hints to inline: each step of an engine runs through it; docs/PERF.md says what the whole of it inlined gains.
 
-ghost use Rattle.std.specs.Prelude.{◌≡◌, ◌<◌, ◌^◌};
+ghost use Rattle.std.specs.Prelude.{◌≡◌, ◌+◌, ◌≤◌, ◌<◌, ◌^◌, ◌++◌, ◌∷◌, [], Option};
+ghost use Rattle.ber_core.specs.Place.{Slice};
 ghost use Rattle.tcap_primitives.specs.IndicationViews.{body_octets, code_octets, indicated, indicated_octets, indicated_slices, optional_octets, pdu_octets};
 ghost use Rattle.tcap_primitives.specs.OutputViews.{shown};
-ghost use Rattle.tcap_primitives.specs.Slices.{slices_of};
+ghost use Rattle.tcap_primitives.specs.Slices.{LieIn, LieInPlace, slices_of};
 
 use super::Indication;
 use crate::output::Output;
+use crate::sink::{Sink, SinkKind};
 use std::alloc::Allocator;
 use tcap_component::{Body, Code};
 use tcap_pdu::DialoguePdu;
@@ -235,6 +237,27 @@ impl<'m> Indication<'m> {
             | Indication::Lapsed { .. }
             | Indication::Ended { .. }
             | Indication::Dropped(_) => 0,
+        }
+    }
+}
+
+impl<'m, A: Allocator + Copy, K: SinkKind> Sink<'m, A, K> {
+    /// Appends an indication, for which there is room.
+    #[inline(always)]
+    pub fn tell(&mut self, indication: Indication<'m>)
+        requires place { 1 ≤ self.old.places }
+        requires octets { indicated_octets indication ≤ self.old.octets }
+        ensures told { self.new.outputs ≡ self.old.outputs ++ indicated indication.entry ∷ [] }
+        ensures places { self.old.places ≤ self.new.places + 1 }
+        ensures octets { self.old.octets ≤ self.new.octets + indicated_octets indication.entry }
+        ensures place { (portion : Option Slice) (components : Slice)
+            → LieIn portion components (indicated_slices indication.entry)
+            → LieInPlace portion components self.old.slices → LieInPlace portion components self.new.slices }
+    {
+        if K::TO_OUTBOX {
+            self.outbox.tell(indication);
+        } else {
+            self.vector.push_reserved(indication.output());
         }
     }
 }

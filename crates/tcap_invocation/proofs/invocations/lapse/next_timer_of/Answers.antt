@@ -1,7 +1,7 @@
 use Rattle.std.proofs.Common.{◌≡◌, ◌∙◌, [], ap, sym, drop, rules, arith}
 use Rattle.std.proofs.Math.ListN.{drop_of_length-le}
 use Rattle.tcap_invocation.proofs.FewLemmas.{least_from, least_from-all}
-use Rattle.tcap_invocation.proofs.invocations.few.next_timer.Goals as goal
+use Rattle.tcap_invocation.proofs.invocations.lapse.next_timer_of.Goals as goal
 
 pub returns : goal.returns
 returns c =
