@@ -3,7 +3,7 @@
 //!
 //! Stands on `ber_core`, `tcap_component` and `indexmap`. Begin at `Invocations`; which answer each
 //! operation class has stands in specs/Class.antt, what a call does to the list in the other files of
-//! specs/. Only `add`, `lapse` and `close_all` take memory.
+//! specs/. Only `add`, `add_free`, `lapse` and `close_all` take memory.
 #![tactic(auto)]
 
 mod class;

@@ -27,8 +27,8 @@ use tcap_pdu::TransId;
 /// each             by a prearranged finish, by u_abort of the user
 /// ```
 ///
-/// Each event is a method of `Phase`, which says by `After` whether the dialogue is over; but for a faulty message and
-/// the idle limit, by which it is, whatever its state.
+/// Each event is a method of `Phase`, which says by `After` whether the dialogue is over; but for the idle limit and a
+/// faulty message that names it in an engine, by which it is, whatever its state.
 #[derive(Clone, Copy, Debug, PartialEq, Eq)]
 pub enum State {
     /// No message was sent or received: Idle.
@@ -165,7 +165,7 @@ impl Phase {
         After::Over
     }
 
-    /// The provider here aborts: a faulty message, an abnormal dialogue portion, the idle limit.
+    /// The provider here aborts: a faulty message, an abnormal dialogue portion.
     #[inline(always)]
     pub fn abort(&self) -> After
         ensures { result ≡ Over }

@@ -21,7 +21,7 @@ struct Found {
 /// The keys of the values by identifier, in no order, and the one that was found last.
 ///
 /// A caller mostly names the identifier of its call before, and a call names its own twice: so a comparison
-/// finds four keys of five, where the index takes some 60 instructions. A contract sees the identifiers with
+/// mostly finds the key, where the index takes some 60 instructions. A contract sees the identifiers with
 /// their keys, and forgets which was found last.
 #[derive(Drop)]
 pub(crate) struct Keys<A: Allocator + Copy = Global> {

@@ -1,4 +1,4 @@
-//! The invocation that is Sent under an identifier, and received results and errors, by its class.
+//! The invocation under an identifier, and received results, errors and Rejects, by its class.
 
 // Hints to inline: each step of an engine runs through it; docs/PERF.md says what the whole of it inlined gains.
 

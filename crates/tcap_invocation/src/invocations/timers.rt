@@ -1,4 +1,4 @@
-//! The timers of invocations: deadlines, and ends of the wait for a Reject.
+//! The timers of many invocations: deadlines, and ends of the wait for a Reject.
 
 ghost use Rattle.std.specs.Prelude.{◌≡◌, ◌<◌, ◌≤◌, [], List, length, filter, filter_map, slice_get, option_copied, IfOk, OnOk, OnErr};
 ghost use Rattle.tcap_invocation.specs.declared.invocations.timers.Timer.{Timer};
