@@ -4,7 +4,7 @@ ghost use Rattle.std.specs.Prelude.{◌≡◌};
 ghost use Rattle.tcap_invocation.specs.Fault.{fault_number};
 ghost use Rattle.tcap_invocation.specs.declared.fault.AddFault.TheVariants.{OutOfMemory};
 
-use std::alloc::AllocFailed;
+use std::alloc::AllocError;
 use std::error::Error;
 use std::fmt;
 
@@ -46,10 +46,10 @@ impl fmt::Display for AddFault {
 
 impl Error for AddFault {}
 
-impl<T: Drop> From<AllocFailed<T>> for AddFault {
+impl From<AllocError> for AddFault {
     ghost from_gives = { λ _ fault. fault ≡ OutOfMemory };
 
-    fn from(_refused: AllocFailed<T>) -> AddFault {
+    fn from(_refused: AllocError) -> AddFault {
         AddFault::OutOfMemory
     }
 }

@@ -140,10 +140,8 @@ impl<A: Allocator + Copy> Invocations<A> {
         if self.rows.get(&id).is_some() {
             return Err(AddFault::InUse);
         }
-        match self.add_free(id, number, class, timeout) {
-            Ok(()) => Ok(()),
-            Err(AllocError) => Err(AddFault::OutOfMemory),
-        }
+        self.add_free(id, number, class, timeout)?;
+        Ok(())
     }
 
     /// `add`, where the timeout is in its range and the identifier is free.

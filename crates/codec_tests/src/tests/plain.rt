@@ -121,7 +121,9 @@ impl Plain {
             class,
             stage,
         };
-        Ok(self.rows.push(row)?)
+        self.rows.reserve(1)?;
+        self.rows.push_reserved(row);
+        Ok(())
     }
 
     pub(super) fn sent(&mut self, clock: u64) {
