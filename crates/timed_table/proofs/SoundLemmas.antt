@@ -1,10 +1,11 @@
 -- What a table keeps after each change, from what its parts tell of theirs.
-use Rattle.std.proofs.Common.{◌≡◌, ℕ, ◌+◌, ◌<◌, ◌^◌, List, [], ◌∷◌, ◌++◌, length, set, Bool, true, false, cond, nat_eq, Option, Some, None, IsSome, option_map, refl, sym, ap, ◌∙◌, arith, rules, tests}
+use Rattle.std.proofs.Common.{◌≡◌, ℕ, ◌+◌, ◌<◌, ◌^◌, List, [], ◌∷◌, ◌++◌, length, set, Bool, true, false, cond, nat_eq, Option, Some, None, IsSome, option_map, refl, sym, ap, subst, ◌∙◌, arith, rules, tests}
 use Rattle.std.proofs.lemmas.List.{length-append}
-use Rattle.slab.specs.Slab.{Slab, get, Updates as SlabUpdates}
+use Rattle.slab.proofs.SlabLemmas.{Updates-with_value}
+use Rattle.slab.specs.Slab.{Slab, get, Updates as SlabUpdates, with_value as slab_with}
 use Rattle.timer_queue.specs.declared.timer.Timer.{Timer}
 use Rattle.timed_table.specs.Row.{Row, IsWritten, entries_of, row_of, AllBelow, with_time, without}
-use Rattle.timed_table.specs.Tied.{identifier_limit, key_of, row_at, all_rows, timer_named, IsTied, IsSound, IsExtended}
+use Rattle.timed_table.specs.Tied.{identifier_limit, key_of, row_at, all_rows, timer_named, IsTied, IsSound, IsExtended, IsPlace}
 use Rattle.timed_table.proofs.RowLemmas.{rows-none, entries-changed, length-changed, length-without, lookup-row}
 use Rattle.timed_table.proofs.TiedLemmas.{within_limit, tied-extended, rows-extended, key-above, value_at, value-is}
 use Rattle.timed_table.proofs.InsertLemmas.{tied-added, rows-inserted}
@@ -107,6 +108,46 @@ module _ {T : Type 0} (keys : List (ℕ × ℕ)) (values : Slab T) (timers : Lis
   unwritten id value none =
       let rows = rows-unwritten keys values timers sound.tied id value none in
       record { rows = rows; entries = ap entries_of rows ∙ entries-changed id value (all_rows keys values timers) }
+
+-- A row has its place once there is room for it, its key stands behind the others, and its timer under the key.
+module _ {T : Type 0} (keys : List (ℕ × ℕ)) (values : Slab T) (timers : List (Option Timer)) (sound : IsSound keys values timers)
+    (room : Slab T) (same : room ≡ record values { capacity = room.capacity }) (more : List (Option Timer)) (x : IsExtended timers more)
+    (id key : ℕ) (time : Option ℕ) (within : key < length more) (small : id < 2 ^ 32) (next : key ≡ room.vacant_key) (vacant : get room key ≡ None) (below : AllBelow id (all_rows keys values timers)) where
+  same_rows : all_rows keys room more ≡ all_rows keys values timers
+  same_rows = rows-roomy keys values timers sound room same more x
+
+  roomy : IsSound keys room more
+  roomy = sound-roomy keys values timers sound room same more x
+
+  still_below : AllBelow id (all_rows keys room more)
+  still_below = rw same_rows below
+
+  under : (value : T) (stored : Slab T) → SlabUpdates room stored room.vacant_key (Some value) → SlabUpdates room stored key (Some value)
+  under value stored up = rw next up
+
+  pub place-made : IsPlace (all_rows keys values timers) id time (keys ++ (id, key) ∷ []) room (set more key (timer_named id time))
+  place-made =
+      record {
+        sound = λ value stored up. sound-insert keys room more roomy stored id key value time within small (under value stored up) vacant still_below;
+        rows = λ value stored up. rw (← same_rows) (rows-insert keys room more roomy stored id key value time within small (under value stored up) vacant still_below);
+      }
+
+-- A value that is stored under the vacant key, and then written.
+module _ {T : Type 0} (room stored : Slab T) (key : ℕ) (value : T) (next : key ≡ room.vacant_key) (up : SlabUpdates room stored key (Some value)) where
+  pub stored-vacant : SlabUpdates room stored room.vacant_key (Some value)
+  stored-vacant = subst (λ k. SlabUpdates room stored k (Some value)) next up
+
+  held : IsSome (get stored key)
+  held = rw up.changed refl
+
+  pub written-vacant : (w : T) → SlabUpdates room (slab_with stored key w) room.vacant_key (Some w)
+  written-vacant w = subst (λ k. SlabUpdates room (slab_with stored key w) k (Some w)) next twice
+    where
+      wrote : SlabUpdates stored (slab_with stored key w) key (Some w)
+      wrote = Updates-with_value stored key w held
+
+      twice : SlabUpdates room (slab_with stored key w) key (Some w)
+      twice = record { changed = wrote.changed; others = λ k n. wrote.others k n ∙ up.others k n }
 
 -- A table without rows.
 module _ {T : Type 0} (values : Slab T) where

@@ -1,9 +1,9 @@
 -- What ties the values, the keys and the timers of a table, and the rows that they are.
-use Rattle.std.specs.Prelude.{◌≡◌, ℕ, zero, suc, ◌+◌, ◌<◌, ◌≤◌, ◌^◌, List, [], Option, None, Some, IsSome, nat_eq, length}
+use Rattle.std.specs.Prelude.{◌≡◌, ℕ, zero, suc, ◌+◌, ◌<◌, ◌≤◌, ◌^◌, List, [], ◌∷◌, ◌++◌, Option, None, Some, IsSome, nat_eq, length}
 use Rattle.std.specs.Option.{option_map}
 use Rattle.std.specs.List.{cons_option}
 use Rattle.std.specs.Map.{lookup}
-use Rattle.slab.specs.Slab.{Slab, get}
+use Rattle.slab.specs.Slab.{Slab, Updates, get}
 use Rattle.timer_queue.specs.declared.timer.Timer.{Timer}
 use Rattle.timer_queue.specs.Order.{timer_at}
 use Rattle.timed_table.specs.Row.{Row}
@@ -59,3 +59,9 @@ timer_named id (Some time) = Some (record { time = time; name = id })
 pub record IsExtended (old new : List (Option Timer)) : Type 0 where
   pub kept : (item : ℕ) → timer_at new item ≡ timer_at old item
   pub longer : length old ≤ length new
+
+-- A row of this identifier and time stands behind these, once its value is stored under the vacant key (own).
+pub record IsPlace {T : Type 0} (before : List (Row T)) (id : ℕ) (time : Option ℕ) (keys : List (ℕ × ℕ)) (values : Slab T) (timers : List (Option Timer)) : Type 0 where
+  pub sound : (value : T) (stored : Slab T) → Updates values stored values.vacant_key (Some value) → IsSound keys stored timers
+  pub rows : (value : T) (stored : Slab T) → Updates values stored values.vacant_key (Some value)
+      → all_rows keys stored timers ≡ before ++ record { identifier = id; value = value; time = time } ∷ []

@@ -1,16 +1,16 @@
-//! A row is put into a table: room for it, its key and its timer.
+//! The place of a row that is put into a table: room for it, its key and its timer.
 
 // Hints to inline: each step of an engine runs through it; docs/PERF.md says what the whole of it inlined gains.
 
-ghost use Rattle.std.specs.Prelude.{◌≡◌, ◌<◌, ◌++◌, [], ◌∷◌, None, length, OnOk, OnErr, IfOk, IfErr};
+ghost use Rattle.std.specs.Prelude.{◌≡◌, ◌<◌, None, length, OnOk, OnErr, IfOk};
 ghost use Rattle.slab.specs.Slab.{get, HasRoomFor};
 ghost use Rattle.timed_table.specs.Row.{AllBelow};
-ghost use Rattle.timed_table.specs.Tied.{IsSound, IsExtended, all_rows};
+ghost use Rattle.timed_table.specs.Tied.{IsSound, IsExtended, IsPlace, all_rows};
 
 use crate::keys::Keys;
 use crate::table::timer_named;
 use slab::Slab;
-use std::alloc::{AllocError, AllocFailed, Allocator};
+use std::alloc::{AllocError, Allocator};
 use timer_queue::TimerQueue;
 
 /// Adds items to the timers until there is one of this number.
@@ -44,34 +44,28 @@ fn make_room<T: Drop, A: Allocator + Copy>(
     Ok(key)
 }
 
-/// Puts a row behind the others.
+/// Makes all room that a row takes, and puts its key and its timer behind the others: the value that is stored next is
+/// that of the row.
 // In `Table::insert`, for the same reason.
 #[inline(always)]
-pub(crate) fn insert_row<T: Drop, A: Allocator + Copy>(
+pub(crate) fn make_place<T: Drop, A: Allocator + Copy>(
     values: &mut Slab<T, A>,
     keys: &mut Keys<A>,
     timers: &mut TimerQueue<A>,
     id: u32,
-    value: T,
     time: Option<u64>,
-) -> Result<(), AllocFailed<T>>
+) -> Result<(), AllocError>
     requires sound { IsSound keys.old values.old timers.old }
     requires below { AllBelow id (all_rows keys.old values.old timers.old) }
-    ensures sound { IsSound keys.new values.new timers.new }
-    ensures ok { OnOk result (all_rows keys.new values.new timers.new
-        ≡ all_rows keys.old values.old timers.old
-        ++ record { identifier = id; value = value; time = time } ∷ []) }
+    ensures room { OnOk result (HasRoomFor values.new 1) }
+    ensures place { OnOk result (IsPlace (all_rows keys.old values.old timers.old) id time
+        keys.new values.new timers.new) }
+    ensures sound { OnErr result (IsSound keys.new values.new timers.new) }
     ensures err { OnErr result (all_rows keys.new values.new timers.new
         ≡ all_rows keys.old values.old timers.old) }
-    ensures value_returned { IfErr result (λ failed. failed.value ≡ value) }
 {
-    let Ok(key) = make_room(values, timers) else {
-        return Err(AllocFailed { value });
-    };
-    if keys.insert(id, key).is_err() {
-        return Err(AllocFailed { value });
-    }
-    values.insert_reserved(value);
+    let key = make_room(values, timers)?;
+    keys.insert(id, key)?;
     timers.set(key, timer_named(id, time));
     Ok(())
 }

@@ -4,8 +4,10 @@
 //! Begin at `Table`.
 #![tactic(auto)]
 
+mod due;
 mod insertion;
 mod keys;
 mod table;
 
-pub use table::{DueRows, Table};
+pub use due::DueRows;
+pub use table::Table;

@@ -2,18 +2,19 @@
 
 // Hints to inline: each step of an engine runs through it; docs/PERF.md says what the whole of it inlined gains.
 
-ghost use Rattle.std.specs.Prelude.{◌≡◌, ◌++◌, ◌∷◌, [], ℕ, nat_eq, length, option_copied, OnOk, OnErr, IfErr, MatchOption};
+ghost use Rattle.std.specs.Prelude.{◌≡◌, ◌++◌, ◌∷◌, [], ℕ, nat_eq, length, option_copied, OnOk, OnErr, OnSome, IfSome, IfNone, IfErr, MatchOption};
 ghost use Rattle.std.specs.Map.{lookup, remove_entry};
 ghost use Rattle.timed_table.specs.Row.{AllBelow, IsRising, HasNoTime, IsFirst, entries_of, row_of, time_in, with_time, without, due_values};
 ghost use Rattle.timed_table.specs.Tied.{timer_named, IsSound, all_rows};
 
-use crate::insertion::insert_row;
+use crate::due::DueRows;
+use crate::insertion::make_place;
 use crate::keys::Keys;
 use slab::Slab;
 use std::alloc::{AllocFailed, Allocator, Global};
 use std::fmt;
 use std::marker::Model;
-use timer_queue::{Due, Timer, TimerQueue};
+use timer_queue::{Timer, TimerQueue};
 
 /// Values under identifiers, which rise as they are inserted; beside each value a time, if it has one.
 #[derive(Drop)]
@@ -113,14 +114,34 @@ impl<T: Drop, A: Allocator + Copy> Table<T, A> {
         ensures err { OnErr result (self.new ≡ self.old) }
         ensures value_returned { IfErr result (λ failed. failed.value ≡ value) }
     {
-        insert_row(
-            &mut self.values,
-            &mut self.keys,
-            &mut self.timers,
-            id,
-            value,
-            time,
-        )
+        let Ok(()) = make_place(&mut self.values, &mut self.keys, &mut self.timers, id, time) else {
+            return Err(AllocFailed { value });
+        };
+        self.values.insert_reserved(value);
+        Ok(())
+    }
+
+    /// `insert` of the value that is made once all memory is found, which lends it where it then stands. Nothing
+    /// where memory was refused, and no value is made.
+    // In its callers, as `insert` is. Of a value that is made before, the 192 octets of a dialogue, its place on the stack
+    // was cleared for the way of a refusal: 13 instructions more.
+    #[inline(always)]
+    pub fn insert_with<F: FnOnce() -> T>(
+        &mut self,
+        id: u32,
+        time: Option<u64>,
+        make: F,
+    ) -> Option<&mut T>
+        requires below { AllBelow id self.old }
+        requires make { F.pre make }
+        ensures* writes_back { sem 𝓛 (LendsSo (the_row T.row A.row A.Allocator) T.row self.entry result
+            (λ new w. OnSome result (new ≡ self.old ++ record { identifier = id; value = w; time = time } ∷ []))
+            (λ new. IfNone result (new ≡ self.old))) }
+        ensures value { IfSome result (λ place. F.post make place.now) }
+    {
+        make_place(&mut self.values, &mut self.keys, &mut self.timers, id, time).ok()?;
+        let key = self.values.insert_reserved(make());
+        self.values.get_mut(key)
     }
 
     /// Takes out the row of an identifier, and answers its value; takes no memory.
@@ -187,49 +208,6 @@ impl<T: Drop + fmt::Debug, A: Allocator + Copy> fmt::Debug for Table<T, A> {
             rows.entry(id, &self.values.get(*key));
         }
         rows.finish()
-    }
-}
-
-/// The values whose times are due at a moment, each once; `Table::due` makes it.
-#[derive(Drop)]
-pub struct DueRows<'a, T: Drop, A: Allocator + Copy = Global> {
-    keys: Due<'a>,
-    values: &'a Slab<T, A>,
-}
-
-impl<'a, T: Drop, A: Allocator + Copy> DueRows<'a, T, A> {
-    ghost use Rattle.std.specs.Prelude.{◌≡◌, filter_map};
-    ghost use Rattle.slab.specs.Slab.{get};
-    ghost use Rattle.timer_queue.specs.Due.{due_left};
-    ghost use Rattle.timed_table.specs.Due.{due_rows_left};
-
-    /// The values at these keys.
-    #[inline(always)]
-    fn new(keys: Due<'a>, values: &'a Slab<T, A>) -> Self
-        ensures { due_rows_left result ≡ filter_map (get values.now) (due_left keys.entry) }
-    {
-        DueRows { keys, values }
-    }
-}
-
-impl<'a, T: Drop, A: Allocator + Copy> Iterator for DueRows<'a, T, A> {
-    ghost use Rattle.std.specs.Iterator.{item_count, YieldsFirstRef};
-    ghost use Rattle.timed_table.specs.Due.{due_rows_left};
-
-    type Item = &'a T;
-
-    ghost next_gives = { YieldsFirstRef due_rows_left };
-
-    ghost remaining = { item_count due_rows_left };
-
-    #[inline(always)]
-    fn next(&mut self) -> Option<&'a T> {
-        while let Some(key) = self.keys.next() {
-            if let Some(value) = self.values.get(key) {
-                return Some(value);
-            }
-        }
-        None
     }
 }
 

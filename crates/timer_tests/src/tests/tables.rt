@@ -12,7 +12,7 @@ use timed_table::Table;
 fn sample(alloc: Global) -> Option<Table<u64>> {
     let mut table = Table::new(alloc);
     table.insert(5, 50, Some(40)).ok()?;
-    table.insert(8, 80, None).ok()?;
+    *table.insert_with(8, None, || 0)? = 80;
     Some(table)
 }
 
