@@ -2,11 +2,11 @@
 
 pub(crate) mod abort;
 pub(crate) mod begin_memory;
-pub(crate) mod beginning;
-pub(crate) mod ending;
 pub(crate) mod kept_address;
 pub(crate) mod message_length;
 pub(crate) mod messages;
+pub(crate) mod received_begin;
+pub(crate) mod received_end;
 pub(crate) mod requests;
 pub(crate) mod spares;
 pub(crate) mod timers;

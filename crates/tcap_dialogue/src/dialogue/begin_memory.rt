@@ -12,8 +12,8 @@ ghost use Rattle.tcap_primitives.specs.QueueViews.{queue_view};
 ghost use Rattle.tcap_primitives.specs.Slices.{LieInPlace};
 ghost use Rattle.tcap_reception.specs.PortionParts.{context_of_portion};
 
-use super::beginning::parts_of;
 use super::kept_address::{Names, is_short};
+use super::received_begin::parts_of;
 use super::spares::Spares;
 use crate::component_handling::component_portion::reserve_message;
 use ber_core::OutOfMemory;

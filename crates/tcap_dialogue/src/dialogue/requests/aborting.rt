@@ -18,7 +18,7 @@ ghost use Rattle.tcap_primitives.specs.RequestViews.{abort_view, reason_view};
 ghost use Rattle.tcap_primitives.specs.SendingViews.{CanSend, sending_view};
 
 use super::sending::{is_filled, send, within_limit_if_any};
-use crate::dialogue::ending::tell_ended;
+use crate::dialogue::received_end::tell_ended;
 use crate::dialogue::{Dialogue, Step};
 use std::alloc::Allocator;
 use tcap_pdu::is_user_information;

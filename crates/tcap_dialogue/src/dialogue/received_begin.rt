@@ -1,4 +1,4 @@
-//! What creates a dialogue: a Begin.
+//! A Begin that is received, which creates a dialogue.
 
 // Hints to inline: each step of an engine runs through it; docs/PERF.md says what the whole of it inlined gains.
 

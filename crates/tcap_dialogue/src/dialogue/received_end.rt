@@ -1,4 +1,4 @@
-//! The end of a dialogue: by an End that is received, and what is told of the invocations that are left at any end.
+//! An End that is received, and what is told of the invocations that are left where a dialogue ends.
 
 // Hints to inline: each step of an engine runs through it; docs/PERF.md says what the whole of it inlined gains.
 
