@@ -2,7 +2,7 @@
 use Rattle.std.proofs.Common.{◌≡◌, ℕ, ◌+◌, ◌<◌, ◌≤◌, Bool, true, false, cond, nat_eq, List, [], ◌∷◌, ◌++◌, Some, None, length, nat_le, if◌then◌else◌, refl, ap, arith, tests}
 use Rattle.std.proofs.lemmas.Bool.{eqb-true}
 use Rattle.std.proofs.lemmas.List.{length-append, length-map}
-use Rattle.std.specs.Map.{lookup, set_value}
+use Rattle.std.specs.Map.{lookup}
 use Rattle.tcap_model.specs.Table.Dialogue.{Dialogue, fresh_dialogue}
 use Rattle.tcap_model.specs.Table.EngineMove.{engine_move, birth_fault_in, asked_in, born_in}
 use Rattle.tcap_model.specs.Table.World.{World}
@@ -21,21 +21,6 @@ absent-drawn d (p ∷ ps) h = go (nat_eq d p.0) refl (absent-drawn d ps h.1)
     go : (b : Bool) → nat_eq d p.0 ≡ b → lookup (nat_eq d) ps ≡ None → cond (nat_eq d p.0) (Some p.1) (lookup (nat_eq d) ps) ≡ None
     go true e rest = let same = eqb-true d p.0 e in let below = h.0 in absurd (omega (arith, same, below))
     go false e rest = rw e rest
-
--- The one that is created is found under its identifier, and what is written there stands in its place.
-pub lookup-push : (d : ℕ) (x : Dialogue) (ps : List TableEntry) → AreDrawn d ps → lookup (nat_eq d) (ps ++ (d, x) ∷ []) ≡ Some x
-lookup-push d x [] h = let same : nat_eq d d ≡ true = grind (arith, tests) in rw same refl
-lookup-push d x (p ∷ ps) h =
-    let below = h.0 in
-    let other : nat_eq d p.0 ≡ false = grind (arith, tests, below) in
-    rw other (lookup-push d x ps h.1)
-
-pub set-push : (d : ℕ) (x new : Dialogue) (ps : List TableEntry) → AreDrawn d ps → set_value (nat_eq d) (ps ++ (d, x) ∷ []) new ≡ ps ++ (d, new) ∷ []
-set-push d x new [] h = let same : nat_eq d d ≡ true = grind (arith, tests) in rw same refl
-set-push d x new (p ∷ ps) h =
-    let below = h.0 in
-    let other : nat_eq d p.0 ≡ false = grind (arith, tests, below) in
-    rw other (ap (λ (qs : List TableEntry). p ∷ qs) (set-push d x new ps h.1))
 
 pub from-push : (low : ℕ) (ps : List TableEntry) (p : TableEntry) → low ≤ p.0 → p.1.standing.identifier ≡ p.0 → AreDrawn p.0 ps → AreFrom low ps → AreFrom low (ps ++ p ∷ [])
 from-push low [] p le is drawn h = (le, is, tt)

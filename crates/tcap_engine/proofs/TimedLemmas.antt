@@ -3,7 +3,6 @@ use Rattle.std.proofs.Common.{◌≡◌, ℕ, ◌+◌, ◌<◌, ◌≤◌, Bool,
 use Rattle.std.proofs.lemmas.List.{map-append}
 use Rattle.std.specs.Prelude.{IfSome, MatchOption}
 use Rattle.std.specs.Map.{lookup}
-use Rattle.tcap_engine.proofs.BirthLemmas.{lookup-push}
 use Rattle.tcap_engine.specs.Lapsing.{AreBehind, AreUntimed, IsFirstTimer, timer_of}
 use Rattle.tcap_engine.specs.DialogueEntries.{AreDrawn}
 use Rattle.tcap_engine.specs.Timed.{AreTimed}
@@ -78,9 +77,6 @@ timed-push d new time (r ∷ rows) is h = (h.0, timed-push d new time rows is h.
 -- The dialogues with it, and that it is found under its identifier.
 pub entries-push : (d : ℕ) (x : Dialogue) (rows new : List (Row Dialogue)) → new ≡ rows ++ record { identifier = d; value = x; time = None } ∷ [] → entries_of new ≡ entries_of rows ++ (d, x) ∷ []
 entries-push d x rows new is = ap entries_of is ∙ map-append _ rows _
-
-pub found-push : (d : ℕ) (x : Dialogue) (rows new : List (Row Dialogue)) → AreDrawn d (entries_of rows) → new ≡ rows ++ record { identifier = d; value = x; time = None } ∷ [] → lookup (nat_eq d) (entries_of new) ≡ Some x
-found-push d x rows new drawn is = ap (lookup (nat_eq d)) (entries-push d x rows new is) ∙ lookup-push d x (entries_of rows) drawn
 
 pub below-drawn : (d : ℕ) (rows : List (Row Dialogue)) → AreDrawn d (entries_of rows) → AllBelow d rows
 below-drawn d [] h = tt

@@ -83,8 +83,8 @@ DeliversTo before after (Ok false) None old new = (after ≡ before) × (new ≡
 abbrev pub frame_reached : World → Address → Message → ℕ → EngineMoved
 frame_reached w from m d = reached_in w d [] (DialogueEvent.frame from m) (dialogue_in d w.dialogues)
 
--- What it does where a faulty message names this dialogue: an Abort goes first to the address that it came from, if the originator
--- is known (own).
+-- What it does where a faulty message names this dialogue: an Abort goes first to the address that it came from, if
+-- the originator is known (own).
 abbrev pub fault_reached : World → Address → Option Message → FrameFault → ℕ → EngineMoved
 fault_reached w from abort f d =
     reached_in w d (sent_if_any from abort) (DialogueEvent.fault (fault_cause f)) (dialogue_in d w.dialogues)

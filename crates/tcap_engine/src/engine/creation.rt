@@ -203,12 +203,14 @@ fn begin_in<'m, A: Allocator + Copy, K: SinkKind>(
     let alloc = table.allocator();
     let mut memory = BeginMemory::new(alloc);
     memory.find(&mut table.spares, from, request, components, sink)?;
-    let fresh = Dialogue::fresh(alloc, identifier, limits.reject_ms, limits.idle_ms);
-    let Ok(()) = table.rows.insert(identifier, fresh, None) else {
+    let fresh = || -> Dialogue<A>
+        requires { AreLimits limits.now }
+        ensures { result ≡ fresh_dialogue identifier limits.entry.now.reject_ms limits.entry.now.idle_ms }
+    { Dialogue::fresh(alloc, identifier, limits.reject_ms, limits.idle_ms) };
+    let Some(dialogue) = table.rows.insert_with(identifier, None, fresh) else {
         memory.leave(&mut table.spares);
         return Err(OutOfMemory);
     };
-    let dialogue = table.rows.get_mut(identifier).unwrap();
     dialogue.take_begin_with(
         &mut memory,
         &mut table.spares,

@@ -106,7 +106,8 @@ impl<A: Allocator + Copy> Engine<A> {
             (message_by (is_live_in self.old.dialogues) (is_some (birth_fault_in self.old)) (message frame.now)))
             self.old self.new }
     {
-        // One way for all that name a dialogue: with one for each kind a Continue took 11 to 21 instructions more.
+        // One way for all that name a dialogue: with one for each kind a Continue by the engine's own calls took 11 to
+        // 21 instructions more.
         let (destination, origin) = match frame {
             Frame::Uni {
                 dialogue,
@@ -238,7 +239,8 @@ impl<A: Allocator + Copy> Engine<A> {
     }
 }
 
-/// The dialogue of an identifier takes a message, if it is live, and is taken out where it is over; whether it was live.
+/// The dialogue of an identifier takes a message, if it is live, and is taken out where it is over. Whether it was
+/// live.
 #[inline(always)]
 fn deliver_in<'m, A: Allocator + Copy, K: SinkKind>(
     table: &mut Dialogues<A>,
