@@ -43,8 +43,8 @@ pub struct Step<'m, A: Allocator = Global> {
 ///   time: `lapse`; or timer by timer `expire_first`; or one by one `due_count`, `first_due`, `lapse_one`
 ///   and `free_due`; the end of one that was idle too long: `abort_idle`, or one by one `open_count`,
 ///   `close_one`; or it is postponed by `touch`.
-/// - With the memory that other dialogues left (`Spares`): `invoke_with`, `result_last_with`; into a sink `begin_with`,
-///   `go_on_with`, `finish_with`, or any request by `ask_with`; `take_begin_with` and `take_frame_with`. `BeginMemory`
+/// - With the memory that other dialogues left (`Spares`): `invoke_with`, `result_last_with`, `cancel_with`; into a sink
+///   `begin_with`, `go_on_with`, `finish_with`, or any request by `ask_with`; `take_begin_with` and `take_frame_with`. `BeginMemory`
 ///   finds the memory that a Begin takes. `leave_memory` leaves its own memory to others.
 /// - Into a sink without it: `take_faulty`.
 /// - Getters: `identifier`, `state`, `is_live`, `peer`, `kept`, `check_invoke`, `message_length`, `next_timer`,

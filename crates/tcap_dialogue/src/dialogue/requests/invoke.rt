@@ -226,6 +226,23 @@ impl<A: Allocator + Copy> Dialogue<A> {
         }
     }
 
+    /// `u_cancel`; a queue that is empty then leaves its memory to others. It takes none
+    /// (Q.771, TC-U-CANCEL; the memory is our own).
+    #[inline(always)]
+    pub fn cancel_with(
+        &mut self,
+        spares: &mut Spares<A>,
+        request: &CancelRequest,
+    ) -> Result<u64, Fault>
+        ensures answer { Answers gave_up result
+            (requested 0 0 self.old (Request.component (cancel_view request.now))) self.old self.new }
+        ensures kept { self.new.standing.identifier ≡ self.old.standing.identifier }
+    {
+        let number = self.give_up_invocation(request)?;
+        self.leave_empty_queue(spares, false);
+        Ok(number)
+    }
+
     /// `queue_invoke`, as a call.
     #[inline(never)]
     pub(super) fn queue_invoke_apart(
