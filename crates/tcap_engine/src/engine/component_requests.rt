@@ -1,7 +1,8 @@
 //! The requests of component handling (Q.771, Component handling).
 
 // Where a call goes by `request`, the kind of its answer is known: inlined, the match on it folds away. TC-INVOKE and
-// TC-RESULT-L find their dialogue and ask it by calls of their own, for the reason that dialogue_requests.rt gives.
+// TC-RESULT-L find their dialogue and ask it by calls of their own, for the reason that dialogue_requests.rt gives, and
+// TC-U-CANCEL, so that its answer isn't to be told from those of others.
 
 ghost use Rattle.std.specs.Prelude.{◌≡◌, ◌≤◌, ℕ, nat_eq, true, option_copied, IfSome, OnErr, IfOk};
 ghost use Rattle.std.specs.Map.{lookup};
@@ -22,12 +23,12 @@ ghost use Rattle.tcap_invocation.specs.Stage.{moment_limit};
 ghost use Rattle.tcap_model.specs.Table.TableMove.{DialogueEvent, table_move};
 ghost use Rattle.tcap_model.specs.Words.Identifiers.{are_numbers_spent};
 ghost use Rattle.tcap_primitives.specs.FaultViews.{fault_view};
-ghost use Rattle.tcap_primitives.specs.RequestViews.{invoke_view, last_view};
+ghost use Rattle.tcap_primitives.specs.RequestViews.{cancel_view, invoke_view, last_view};
 ghost use Rattle.tcap_model.specs.Histories.History.{History};
 ghost use Rattle.tcap_model.specs.Table.World.{World};
 
 use super::Engine;
-use crate::dialogues::Dialogues;
+use crate::dialogues::{Dialogues, write_timer};
 use std::alloc::Allocator;
 use tcap_component::{Body, Code, Problem};
 use tcap_dialogue::{
@@ -159,6 +160,7 @@ impl<A: Allocator + Copy> Engine<A> {
 
     /// TC-U-CANCEL request: the Queued or Sent invocation with this identifier, -128 to 127, is given up,
     /// and its number answered. Takes no memory. Faults: `UnknownDialogue`, `NoSuchInvocation`.
+    #[tactic(auto, using(crate::proofs::StandingLemmas::stands_after))]
     pub fn u_cancel(&mut self, dialogue: u32, id: i8) -> Result<u64, Fault>
         ensures moves { EngineAnswers gave_up result (engine_move self.old
             (Event.on_dialogue dialogue (model.Request.component (ComponentRequest.u_cancel id)))) self.old self.new }
@@ -166,7 +168,9 @@ impl<A: Allocator + Copy> Engine<A> {
             (Event.on_dialogue dialogue (model.Request.component (ComponentRequest.u_cancel id))) self.old self.new }
         ensures err { OnErr result (self.new ≡ self.old) }
     {
-        given_up_of(self.request(dialogue, &Request::Cancel(CancelRequest { id })))
+        let cancel = CancelRequest { id };
+        ranges::request(&Request::Cancel(cancel));
+        cancel_in(&mut self.table, dialogue, &cancel)
     }
 }
 
@@ -182,22 +186,6 @@ fn queued_of<A: Allocator + Copy>(asked: Result<Asked<'_, A>, Fault>) -> Result<
 {
     asked?;
     Ok(())
-}
-
-/// The number of the invocation that was given up.
-#[inline(always)]
-fn given_up_of<A: Allocator + Copy>(asked: Result<Asked<'_, A>, Fault>) -> Result<u64, Fault>
-    requires { IfOk asked (λ a. MayAnswer AnswerKind.given_up (asked_answer a)) }
-    ensures moves { (m : EngineMoved) (old new : World) → EngineAnswers asked_answer asked.entry m old new
-        → EngineAnswers gave_up result m old new }
-    ensures stands { (h : History) (event : Event) (new : World)
-        → StandsAfter asked_answer asked.entry h event new → StandsAfter gave_up result h event new }
-    ensures err { (old new : World) → OnErr asked.entry (new ≡ old) → OnErr result (new ≡ old) }
-{
-    match asked? {
-        Asked::GivenUp(number) => Ok(number),
-        Asked::Number(_) | Asked::Done | Asked::Step(_) => unreachable!(),
-    }
 }
 
 /// Why an Invoke is refused where all numbers are spent: for a fault of its own, if it has one.
@@ -263,4 +251,25 @@ fn result_last_in<A: Allocator + Copy>(
         return Err(Fault::UnknownDialogue);
     };
     dialogue.result_last_with(&mut table.spares, reject_ms, request)
+}
+
+/// TC-U-CANCEL on the dialogue of an identifier, whose next timer is another then where that of the invocation was it.
+#[inline(always)]
+fn cancel_in<A: Allocator + Copy>(
+    table: &mut Dialogues<A>,
+    identifier: u32,
+    request: &CancelRequest,
+) -> Result<u64, Fault>
+    ensures { (clock number : ℕ) → AnswersInTable gave_up result
+        (λ x. outcome (table_move (asked clock number) x
+        (DialogueEvent.request (model.Request.component (cancel_view request.now)))))
+        identifier (lookup (nat_eq identifier) table.old) table.old table.new }
+{
+    let Some(dialogue) = table.rows.get_mut(identifier) else {
+        return Err(Fault::UnknownDialogue);
+    };
+    let number = dialogue.cancel_with(&mut table.spares, request)?;
+    let timer = dialogue.next_timer();
+    write_timer(&mut table.rows, identifier, timer);
+    Ok(number)
 }
