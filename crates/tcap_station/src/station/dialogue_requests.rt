@@ -199,11 +199,14 @@ fn prepare<A: Allocator + Copy>(
         // No message of an engine is longer: it judges the request itself.
         return Ok(());
     }
-    let length = engine.message_length(dialogue, request)?;
+    // The length is asked of a copy, so that the request itself needs no memory where its kind is known: a Continue
+    // through C takes 9 instructions less. Where it isn't known the copy is made for nothing.
+    let asked = *request;
+    let length = engine.message_length(dialogue, &asked)?;
     if is_above(length, max_message) {
         return Err(Fault::TooLong);
     }
-    if !has_place(marks) && (length.is_some() || engine.ended_by(dialogue, request) > 0) {
+    if !has_place(marks) && (length.is_some() || engine.ended_by(dialogue, &asked) > 0) {
         make_place(marks)?;
     }
     Ok(())
