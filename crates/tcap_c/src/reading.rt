@@ -1,16 +1,98 @@
 //! The outputs that wait are taken, one at a time.
 
-ghost use Rattle.std.specs.Prelude.{◌≡◌, true, false};
-ghost use Rattle.tcap_c.specs.Reading.{TakesFront};
+ghost use Rattle.std.specs.Prelude.{◌≡◌, ℕ, true, false, IfSome, IsSomeAnd, List, None, slice_get};
+ghost use Rattle.std.specs.Option.{option_map};
+ghost use Rattle.tcap_primitives.specs.OutboxReading.{output_read};
+ghost use Rattle.tcap_station.specs.WaitingViews.{output_of};
+ghost use Rattle.tcap_c.specs.Numbers.{bare, of_dialogue};
+ghost use Rattle.tcap_c.specs.Reading.{IsToldBare, TakesFront};
 ghost use Rattle.tcap_c.specs.StepForm.{Refuses};
 
 use crate::handle::Handle;
+use crate::laying::lay_alone;
+use crate::output_kind::OutputKind;
 use crate::output_numbers::OutputNumbers;
 use crate::status::Status;
 use crate::telling::tell;
 use crate::told_ranges;
 use std::alloc::Global;
+use tcap_primitives::kept::{PortionRecord, Record};
 use tcap_station::Station;
+
+/// The kind, the dialogue and the dialogue portion of a Begin, a Continue or an End; `None` for all else.
+#[inline(always)]
+fn portion_of(kept: &Record) -> Option<(OutputKind, u32, &PortionRecord)>
+    ensures { (octets : List ℕ) → IfSome result (λ told. told.2.now.context ≡ None → told.2.now.info.len ≡ 0
+        → IsToldBare (of_dialogue told.1 (bare told.0)) (output_read octets kept.now)) }
+{
+    match kept {
+        Record::Begin { dialogue, portion } => Some((OutputKind::Begin, *dialogue, portion)),
+        Record::Continue { dialogue, portion } => Some((OutputKind::Continue, *dialogue, portion)),
+        Record::End { dialogue, portion } => Some((OutputKind::End, *dialogue, portion)),
+        Record::Send { .. }
+        | Record::Uni { .. }
+        | Record::UAbort { .. }
+        | Record::PAbort { .. }
+        | Record::Invoked { .. }
+        | Record::ResultMore { .. }
+        | Record::LocalReject { .. }
+        | Record::RemoteReject { .. }
+        | Record::ResultLast { .. }
+        | Record::ErrorBack { .. }
+        | Record::Rejected { .. }
+        | Record::Lapsed { .. }
+        | Record::Ended { .. }
+        | Record::Dropped { .. } => None,
+    }
+}
+
+/// The numbers of a Begin, a Continue or an End without octets, its event left out; `None` for all else.
+#[inline(always)]
+fn bare_numbers(kept: &Record) -> Option<OutputNumbers>
+    ensures { (octets : List ℕ) → IfSome result (λ told. IsToldBare told (output_read octets kept.now)) }
+{
+    let (kind, dialogue, portion) = portion_of(kept)?;
+    if portion.context.is_some() || portion.info.len > 0 {
+        return None;
+    }
+    Some(OutputNumbers::bare(kind).of_dialogue(dialogue))
+}
+
+/// The numbers of the output that comes next, its event left out, where it is a Begin, a Continue or an End without a
+/// dialogue portion, and so without octets, and the first of the only event whose outputs wait; `None` elsewhere.
+#[inline(always)]
+fn bare_front(station: &Station<Global>) -> Option<OutputNumbers>
+    ensures { IfSome result (λ told. IsSomeAnd (option_map output_of (slice_get station.now.waiting 0))
+        (IsToldBare told)) }
+{
+    let kept = station.kept_of_one_event()?;
+    bare_numbers(kept.record)
+}
+
+/// Takes the output that comes next, if `bare_front` has its numbers: whether it does.
+// Ahead of `take_front`: with no octets to copy and nothing to call one register is saved, where that saves six. The
+// output is taken before its numbers are written, so that nothing is read twice. A Continue that is received takes 45
+// instructions less, one that is sent 17 more, since what comes next is looked at twice.
+#[inline(always)]
+fn take_bare(station: &mut Station<Global>, numbers: &mut OutputNumbers) -> bool
+    ensures taken { result ≡ true → (room : List ℕ) → TakesFront station.old.waiting 0 station.old station.new
+        numbers.old numbers.new room room }
+    ensures other { result ≡ false → (station.new ≡ station.old) × (numbers.new ≡ numbers.old) }
+{
+    let Some(told) = bare_front(station) else {
+        return false;
+    };
+    // Where `bare_front` answers, an output waits, so that one is taken.
+    let Some(answering) = station.take_front() else {
+        return false;
+    };
+    let told = OutputNumbers {
+        event: answering.event,
+        is_last: answering.is_last,
+        ..told
+    };
+    lay_alone(numbers, told)
+}
 
 /// Takes the output that comes next, which is laid down, if one waits and fits: the status.
 // Out of line, so that a call where nothing waits saves no registers.
@@ -54,6 +136,9 @@ pub extern "C" fn tcap_c_next(
     let station = handle.station();
     if !station.is_waiting() {
         return Status::Nothing.number();
+    }
+    if take_bare(station, numbers) {
+        return Status::Done.number();
     }
     take_front(station, numbers, room)
 }

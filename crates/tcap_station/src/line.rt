@@ -4,7 +4,7 @@ pub(crate) mod accepting;
 pub(crate) mod marks;
 pub(crate) mod outboxes;
 
-ghost use Rattle.std.specs.Prelude.{◌≡◌, [], IfSome, drop, slice_get};
+ghost use Rattle.std.specs.Prelude.{◌≡◌, [], IfSome, Some, drop, slice_get};
 ghost use Rattle.std.specs.Option.{option_map};
 ghost use Rattle.tcap_primitives.specs.KeptViews.{FitsKept, kept_view};
 ghost use Rattle.tcap_station.specs.Line.{IsInLine, waiting_in};
@@ -74,6 +74,21 @@ impl<A: Allocator + Copy> Line<A> {
         ensures fits { IfSome result FitsKept }
     {
         kept_first(&self.front, self.taken, &self.back)
+    }
+
+    /// `kept_first`, where the outputs of one event wait, of which none was taken; `None` elsewhere.
+    // Where it answers one, `remove_first` calls nothing: who asks for it first saves one register.
+    #[inline(always)]
+    pub(crate) fn kept_of_one_event(&self) -> Option<KeptOutput<'_>>
+        requires { IsInLine self.now }
+        ensures output { IfSome result (λ kept. Some (kept_view kept)
+            ≡ option_map output_of (slice_get (waiting_in self.now) 0)) }
+        ensures fits { IfSome result FitsKept }
+    {
+        if self.taken < self.front.len() || !self.marks.others.is_empty() {
+            return None;
+        }
+        self.kept_first()
     }
 
     /// Takes away the output that comes next, if one waits: which event it answers.

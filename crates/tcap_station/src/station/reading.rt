@@ -1,6 +1,6 @@
 //! The outputs that wait are taken, one at a time.
 
-ghost use Rattle.std.specs.Prelude.{◌≡◌, IfSome, slice_get};
+ghost use Rattle.std.specs.Prelude.{◌≡◌, IfSome, Some, slice_get};
 ghost use Rattle.std.specs.Option.{option_map};
 ghost use Rattle.tcap_primitives.specs.KeptViews.{FitsKept, kept_view};
 ghost use Rattle.tcap_station.specs.Station.{without_first};
@@ -37,6 +37,17 @@ impl<A: Allocator + Copy> Station<A> {
         ensures fits { IfSome result FitsKept }
     {
         self.line.kept_first()
+    }
+
+    /// `kept_front`, where the outputs of one event wait, of which none was taken; `None` elsewhere. To take it calls
+    /// nothing then.
+    #[inline(always)]
+    pub fn kept_of_one_event(&self) -> Option<KeptOutput<'_>>
+        ensures output { IfSome result (λ kept. Some (kept_view kept)
+            ≡ option_map output_of (slice_get self.now.waiting 0)) }
+        ensures fits { IfSome result FitsKept }
+    {
+        self.line.kept_of_one_event()
     }
 
     /// Takes away the output that comes next, if one waits: which event it answers. It takes no memory.
