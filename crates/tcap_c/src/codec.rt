@@ -1,6 +1,6 @@
 //! What a program reads of octets without an engine: identifiers and texts, in a room of its own.
 
-ghost use Rattle.std.specs.Prelude.{◌≡◌, ◌++◌, List, ℕ, Option, IfSome, IsSomeAnd};
+ghost use Rattle.std.specs.Prelude.{◌≡◌, ◌++◌, Bool, List, ℕ, Option, IfOk, IfSome, IsSomeAnd};
 ghost use Rattle.object_identifiers.specs.Arcs.{NamesOctets};
 ghost use Rattle.tcap_pdu.specs.Front.{Front};
 ghost use Rattle.tcap_text.specs.Canonical.{canon_text_of, canon_is_good};
@@ -115,18 +115,25 @@ pub extern "C" fn tcap_c_text_of_oid(octets: &[u8], count: &mut usize, room: &mu
     }
 }
 
-/// A text at the front of a room, if it fits, how many octets it has, and whether the verdict on its message is good.
-fn fill_text(
-    shown: &Shown<Global>,
+/// Answers a text at the front of a room, if it fits, how many octets it has, and whether the verdict on its message is
+/// good. Where memory was refused for it, nothing is written. The number of the status.
+fn answer_text(
+    shown: Result<Shown<Global>, OutOfMemory>,
     is_good: &mut bool,
     count: &mut usize,
     room: &mut [u8],
-) -> Status
-    ensures text { Gives shown.now.text.items (status_number result) count.new room.old room.new }
-    ensures good { is_good.new ≡ shown.now.good }
+) -> u8
+    ensures { (text : List ℕ) (good : Bool) → IfOk shown (λ s. s.text.items ≡ text)
+        → IfOk shown (λ s. s.good ≡ good) → GivesText text good result
+        is_good.old is_good.new count.old count.new room.old room.new }
 {
-    *is_good = shown.good;
-    fill(shown.text.as_slice(), count, room)
+    match shown {
+        Ok(shown) => {
+            *is_good = shown.good;
+            fill(shown.text.as_slice(), count, room).number()
+        }
+        Err(OutOfMemory) => Status::Refused(Fault::OutOfMemory).number(),
+    }
 }
 
 /// The message that octets are, line by line, or the verdict on them alone; how many octets the text has, and whether
@@ -143,10 +150,7 @@ pub extern "C" fn tcap_c_show(
     ensures { GivesText (show_text_of message.now) (show_is_good message.now) result
         is_good.old is_good.new count.old count.new room.old room.new }
 {
-    match show_text(alloc, message) {
-        Ok(shown) => fill_text(&shown, is_good, count, room).number(),
-        Err(OutOfMemory) => Status::Refused(Fault::OutOfMemory).number(),
-    }
+    answer_text(show_text(alloc, message), is_good, count, room)
 }
 
 /// The verdict on octets as a text; the rest as of `tcap_c_show`.
@@ -161,10 +165,7 @@ pub extern "C" fn tcap_c_check(
     ensures { GivesText (check_text_of message.now) (show_is_good message.now) result
         is_good.old is_good.new count.old count.new room.old room.new }
 {
-    match check_text(alloc, message) {
-        Ok(shown) => fill_text(&shown, is_good, count, room).number(),
-        Err(OutOfMemory) => Status::Refused(Fault::OutOfMemory).number(),
-    }
+    answer_text(check_text(alloc, message), is_good, count, room)
 }
 
 /// The canonical form of a message in lower case hexadecimal, or the verdict where it isn't good; the rest as of
@@ -180,8 +181,5 @@ pub extern "C" fn tcap_c_canon(
     ensures { GivesText (canon_text_of message.now) (canon_is_good message.now) result
         is_good.old is_good.new count.old count.new room.old room.new }
 {
-    match canon_text(alloc, message) {
-        Ok(shown) => fill_text(&shown, is_good, count, room).number(),
-        Err(OutOfMemory) => Status::Refused(Fault::OutOfMemory).number(),
-    }
+    answer_text(canon_text(alloc, message), is_good, count, room)
 }

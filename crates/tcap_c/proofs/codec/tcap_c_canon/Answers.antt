@@ -1,9 +1,7 @@
-use Rattle.std.proofs.Common.{inr, ◌∙◌}
-use Rattle.tcap_c.proofs.CodecLemmas.{given}
+use Rattle.tcap_text.specs.Canonical.{canon_is_good, canon_text_of}
 use Rattle.tcap_c.proofs.codec.tcap_c_canon.Goals as goal
 
-pub returns-in-Ok : goal.returns-in-Ok
-returns-in-Ok c = inr (
-  given c.in-Ok.shown.text.items _ c.number.result _ _ _ _ c.in-Ok.ensures.text c.number.ensures c.fill_text.ensures.text,
-  c.fill_text.ensures.good ∙ c.in-Ok.ensures.good,
-)
+pub returns : goal.returns
+returns c =
+    let bytes = c.args.message.now in
+    c.answer_text.ensures (canon_text_of bytes) (canon_is_good bytes) c.canon_text.ensures.text c.canon_text.ensures.good

@@ -1,9 +1,7 @@
-use Rattle.std.proofs.Common.{inr, ◌∙◌}
-use Rattle.tcap_c.proofs.CodecLemmas.{given}
+use Rattle.tcap_text.specs.Show.{check_text_of, show_is_good}
 use Rattle.tcap_c.proofs.codec.tcap_c_check.Goals as goal
 
-pub returns-in-Ok : goal.returns-in-Ok
-returns-in-Ok c = inr (
-  given c.in-Ok.shown.text.items _ c.number.result _ _ _ _ c.in-Ok.ensures.text c.number.ensures c.fill_text.ensures.text,
-  c.fill_text.ensures.good ∙ c.in-Ok.ensures.good,
-)
+pub returns : goal.returns
+returns c =
+    let bytes = c.args.message.now in
+    c.answer_text.ensures (check_text_of bytes) (show_is_good bytes) c.check_text.ensures.text c.check_text.ensures.good

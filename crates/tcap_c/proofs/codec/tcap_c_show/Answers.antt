@@ -1,9 +1,7 @@
-use Rattle.std.proofs.Common.{inr, ◌∙◌}
-use Rattle.tcap_c.proofs.CodecLemmas.{given}
+use Rattle.tcap_text.specs.Show.{show_is_good, show_text_of}
 use Rattle.tcap_c.proofs.codec.tcap_c_show.Goals as goal
 
-pub returns-in-Ok : goal.returns-in-Ok
-returns-in-Ok c = inr (
-  given c.in-Ok.shown.text.items _ c.number.result _ _ _ _ c.in-Ok.ensures.text c.number.ensures c.fill_text.ensures.text,
-  c.fill_text.ensures.good ∙ c.in-Ok.ensures.good,
-)
+pub returns : goal.returns
+returns c =
+    let bytes = c.args.message.now in
+    c.answer_text.ensures (show_text_of bytes) (show_is_good bytes) c.show_text.ensures.text c.show_text.ensures.good
