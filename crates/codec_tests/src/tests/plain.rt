@@ -121,9 +121,7 @@ impl Plain {
             class,
             stage,
         };
-        self.rows.reserve(1)?;
-        self.rows.push_reserved(row);
-        Ok(())
+        Ok(self.rows.push(row)?)
     }
 
     pub(super) fn sent(&mut self, clock: u64) {
