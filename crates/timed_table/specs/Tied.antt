@@ -21,7 +21,11 @@ module _ {T : Type 0} where
   abbrev pub row_at_key : Slab T → List (Option Timer) → ℕ → Option ℕ → Option (Row T)
   row_at_key values timers id None = None
   row_at_key values timers id (Some key) =
-      option_map (λ value. record { identifier = id; value = value; time = option_map (λ t. t.time) (timer_at timers key) }) (get values key)
+      option_map (λ value. record {
+        identifier = id;
+        value = value;
+        time = option_map (λ t. t.time) (timer_at timers key);
+      }) (get values key)
 
   -- The row of an identifier (own).
   abbrev pub row_at : List (ℕ × ℕ) → Slab T → List (Option Timer) → ℕ → Option (Row T)
@@ -60,8 +64,13 @@ pub record IsExtended (old new : List (Option Timer)) : Type 0 where
   pub kept : (item : ℕ) → timer_at new item ≡ timer_at old item
   pub longer : length old ≤ length new
 
--- A row of this identifier and time stands behind these, once its value is stored under the vacant key (own).
-pub record IsPlace {T : Type 0} (before : List (Row T)) (id : ℕ) (time : Option ℕ) (keys : List (ℕ × ℕ)) (values : Slab T) (timers : List (Option Timer)) : Type 0 where
-  pub sound : (value : T) (stored : Slab T) → Updates values stored values.vacant_key (Some value) → IsSound keys stored timers
-  pub rows : (value : T) (stored : Slab T) → Updates values stored values.vacant_key (Some value)
+-- A value is stored under the vacant key, and the other values are as before (own).
+abbrev pub IsStored : {T : Type 0} → Slab T → Slab T → T → Type 0
+IsStored before after value = Updates before after before.vacant_key (Some value)
+
+-- Once a value is stored so, all is sound, and its row, of this identifier and time, stands behind these (own).
+pub record IsPlace {T : Type 0} (before : List (Row T)) (id : ℕ) (time : Option ℕ) (keys : List (ℕ × ℕ))
+    (values : Slab T) (timers : List (Option Timer)) : Type 0 where
+  pub sound : (value : T) (stored : Slab T) → IsStored values stored value → IsSound keys stored timers
+  pub rows : (value : T) (stored : Slab T) → IsStored values stored value
       → all_rows keys stored timers ≡ before ++ record { identifier = id; value = value; time = time } ∷ []

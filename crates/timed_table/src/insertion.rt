@@ -1,6 +1,6 @@
 //! The place of a row that is put into a table: room for it, its key and its timer.
 
-// Hints to inline: each step of an engine runs through it; docs/PERF.md says what the whole of it inlined gains.
+// Hints to inline: each dialogue that is created goes in by it; docs/PERF.md says what the whole of it inlined gains.
 
 ghost use Rattle.std.specs.Prelude.{◌≡◌, ◌<◌, None, length, OnOk, OnErr, IfOk};
 ghost use Rattle.slab.specs.Slab.{get, HasRoomFor};
@@ -46,7 +46,7 @@ fn make_room<T: Drop, A: Allocator + Copy>(
 
 /// Makes all room that a row takes, and puts its key and its timer behind the others: the value that is stored next is
 /// that of the row.
-// In `Table::insert`, for the same reason.
+// Inlined into `Table::insert` and `Table::insert_with`, for the reason that stands at `insert`.
 #[inline(always)]
 pub(crate) fn make_place<T: Drop, A: Allocator + Copy>(
     values: &mut Slab<T, A>,

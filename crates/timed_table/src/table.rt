@@ -123,8 +123,8 @@ impl<T: Drop, A: Allocator + Copy> Table<T, A> {
 
     /// `insert` of the value that is made once all memory is found, which lends it where it then stands. Nothing
     /// where memory was refused, and no value is made.
-    // In its callers, as `insert` is. Of a value that is made before, the 192 octets of a dialogue, its place on the stack
-    // was cleared for the way of a refusal: 13 instructions more.
+    // In its callers, as `insert` is. A value that is made before has its place on the stack cleared, since a refusal
+    // drops it: 13 instructions more for a Begin's dialogue, which is 192 octets.
     #[inline(always)]
     pub fn insert_with<F: FnOnce() -> T>(
         &mut self,
