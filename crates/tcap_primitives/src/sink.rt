@@ -1,5 +1,7 @@
 //! Where the outputs of a call go: what is told, and messages, each written where it is kept.
 
+// Hints to inline: each step of an engine runs through it; docs/PERF.md says what the whole of it inlined gains.
+
 pub mod taken;
 
 ghost use Rattle.std.specs.Prelude.{◌≡◌, ◌+◌, ◌-◌, ◌^◌, ◌≤◌, ◌<◌, ◌++◌, ◌∷◌, [], None, true, false, Bool, Option, length, map, vec_len, vec_capacity, OnOk, OnErr};

@@ -1,5 +1,7 @@
 //! How long the message of a request would be (our own).
 
+// Hints to inline: where the caller knows the kind of request, the match on it folds away, and those on its answer.
+
 ghost use Rattle.std.specs.Prelude.{◌≡◌, Option, Some, None, IfOk, IfErr};
 ghost use Rattle.tcap_dialogue.specs.MessageLength.{IsJudged, IsJudgedBy, octets_of};
 ghost use Rattle.tcap_dialogue.specs.RequestMessages.{outgoing_view};
@@ -40,7 +42,6 @@ impl<A: Allocator + Copy> Dialogue<A> {
     /// How many octets the message has that this request would send now, `None` where it sends none; a request of
     /// component handling sends none, and isn't judged. Faults: those of a request of dialogue handling, in their
     /// order, but `OutOfMemory`. It takes no memory (our own).
-    // Where the request is known, the match on it folds away.
     #[inline(always)]
     pub fn message_length(&self, request: &Request<'_>) -> Result<Option<usize>, Fault>
         ensures { IsJudged self.now (request_view request.now) result }

@@ -16,7 +16,8 @@ use tcap_dialogue::{Fault, Request};
 
 impl<A: Allocator + Copy> Engine<A> {
     /// How many octets the message has that this request would send now, `None` where it sends none. Faults:
-    /// `UnknownDialogue`, and those of the request but `OutOfMemory`. Nothing changes, and it takes no memory (our own).
+    /// `UnknownDialogue`, and those of the request but `OutOfMemory`. Nothing changes, and it takes no memory (our
+    /// own).
     // Where the request is known, the match on it folds away.
     #[inline(always)]
     pub fn message_length(

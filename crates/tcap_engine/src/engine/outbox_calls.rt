@@ -57,8 +57,8 @@ impl<A: Allocator + Copy> Engine<A> {
         ensures stands { Stands (since_answer outbox.old.outputs outbox.new.outputs) result (Event.moment now)
             self.old self.new }
     {
-        // What comes most is a moment at which nothing is due. Nothing is told then, so the outbox stays where it is: to
-        // move it took 33 instructions.
+        // What comes most is a moment at which nothing is due. Nothing is told then, so the outbox stays where it is:
+        // to move it took 33 instructions.
         if let Some(answer) = self.pass_if_still(now) {
             return answer;
         }
@@ -257,6 +257,7 @@ impl<A: Allocator + Copy> Engine<A> {
     }
 
     /// `request_into`, by what takes any request.
+    // Inlined into `request_into`, for the reason that stands there.
     #[inline(always)]
     fn any_request_into(
         &mut self,

@@ -1,6 +1,8 @@
 //! The invocations of a dialogue, by rising number: few one after the other, many by their identifiers. What answers,
 //! closings and time ask of either stands in answers.rt, closing.rt and lapse.rt.
 
+// Hints to inline: each step of an engine runs through it; docs/PERF.md says what the whole of it inlined gains.
+
 ghost use Rattle.std.specs.Prelude.{◌≡◌, ◌↔◌, ◌≤◌, ◌++◌, ◌∷◌, [], Some, IsTrue, length, min, IfOk, OnOk, OnErr};
 ghost use Rattle.tcap_invocation.specs.Invocations.{AllBelow, entry_at, without};
 ghost use Rattle.tcap_invocation.specs.Rows.{AreSorted, IsNew};

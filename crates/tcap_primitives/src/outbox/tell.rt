@@ -1,5 +1,7 @@
 //! An outbox takes outputs.
 
+// Hints to inline: each step of an engine runs through it; docs/PERF.md says what the whole of it inlined gains.
+
 ghost use Rattle.std.specs.Prelude.{◌≡◌, ◌+◌, ◌-◌, ◌^◌, ◌≤◌, ◌<◌, ◌++◌, ◌∷◌, [], length, vec_len, vec_capacity, None, OnOk, OnErr};
 ghost use Rattle.tcap_model.specs.Words.Output as model;
 ghost use Rattle.tcap_pdu.specs.FrameMeasured.{IsMeasured};
