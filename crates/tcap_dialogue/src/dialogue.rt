@@ -1,12 +1,14 @@
 //! The dialogue, what it keeps, and what a call on it gives.
 
-pub(crate) mod abort;
+mod abort;
 pub(crate) mod begin_memory;
-pub(crate) mod kept_address;
-pub(crate) mod message_length;
-pub(crate) mod messages;
-pub(crate) mod received_begin;
-pub(crate) mod received_end;
+mod ended_invocations;
+mod kept_address;
+mod message_length;
+mod messages;
+mod portion_parts;
+mod received_begin;
+mod received_end;
 pub(crate) mod requests;
 pub(crate) mod spares;
 pub(crate) mod timers;
@@ -43,10 +45,11 @@ pub struct Step<'m, A: Allocator = Global> {
 ///   time: `lapse`; or timer by timer `expire_first`; or one by one `due_count`, `first_due`, `lapse_one`
 ///   and `free_due`; the end of one that was idle too long: `abort_idle`, or one by one `open_count`,
 ///   `close_one`; or it is postponed by `touch`.
-/// - With the memory that other dialogues left (`Spares`): `invoke_with`, `result_last_with`, `cancel_with`; into a sink
-///   `begin_with`, `go_on_with`, `finish_with`, or any request by `ask_with`; `take_begin_with` and `take_frame_with`. `BeginMemory`
-///   finds the memory that a Begin takes. `leave_memory` leaves its own memory to others.
-/// - Into a sink without it: `take_faulty`.
+/// - With the memory that other dialogues left (`Spares`): `invoke_with`, `result_last_with`, `cancel_with`; into a
+///   sink `begin_with`, `go_on_with`, `finish_with`, or any request by `ask_with`; `take_begin_with` and
+///   `take_frame_with`. `BeginMemory` finds the memory that a Begin takes. `leave_memory` leaves its own memory to
+///   others.
+/// - Into a sink, without `Spares`: `take_faulty`, and `expire_first` and `abort_idle` of those above.
 /// - Getters: `identifier`, `state`, `is_live`, `peer`, `kept`, `check_invoke`, `message_length`, `next_timer`,
 ///   `idle_at`.
 ///

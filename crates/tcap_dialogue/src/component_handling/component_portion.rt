@@ -207,7 +207,11 @@ pub(crate) fn handle_components<'m, A: Allocator + Copy, K: SinkKind>(
     requires room { length components.now ≤ sink.old.octets }
     requires rejects { FindRejectRoom spares.old queue.old (length (components_of components.now)) }
     ensures done { record { told = sink.new.outputs; list = invocations.new; queue = queue_view queue.new }
-        ≡ done_from dialogue clock (record { told = sink.old.outputs; list = invocations.old; queue = queue_view queue.old }) (components_of components.now) }
+        ≡ done_from dialogue clock (record {
+          told = sink.old.outputs;
+          list = invocations.old;
+          queue = queue_view queue.old;
+        }) (components_of components.now) }
     ensures place { (portion : Option Slice) → LieInPlace portion components.entry sink.old.slices
         → LieInPlace portion components.entry sink.new.slices }
 {
@@ -231,7 +235,8 @@ pub(crate) fn handle_in_end<'m, A: Allocator + Copy, K: SinkKind>(
     requires places { length (components_of components.now) ≤ sink.old.places }
     requires room { length components.now ≤ sink.old.octets }
     ensures told { record { told = sink.new.outputs; list = invocations.new }
-        ≡ told_from dialogue clock (record { told = sink.old.outputs; list = invocations.old }) (components_of components.now) }
+        ≡ told_from dialogue clock (record { told = sink.old.outputs; list = invocations.old })
+        (components_of components.now) }
     ensures places { sink.old.places ≤ sink.new.places
         + length (components_of components.now) }
     ensures left { length (ended_at invocations.new.rows) ≤ length (ended_at invocations.old.rows) }

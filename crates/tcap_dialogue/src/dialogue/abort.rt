@@ -22,8 +22,8 @@ ghost use Rattle.tcap_pdu.specs.FramePortions.{reason_slice};
 ghost use Rattle.tcap_pdu.specs.FrameViews.{reason_of};
 
 use super::Dialogue;
+use super::ended_invocations::tell_ended;
 use super::kept_address::KeptAddress;
-use super::received_end::tell_ended;
 use ber_core::OutOfMemory;
 use std::alloc::Allocator;
 use tcap_address::Address;

@@ -13,7 +13,7 @@ ghost use Rattle.tcap_primitives.specs.Slices.{LieInPlace};
 ghost use Rattle.tcap_reception.specs.PortionParts.{context_of_portion};
 
 use super::kept_address::{Names, is_short};
-use super::received_begin::parts_of;
+use super::portion_parts::parts_of;
 use super::spares::Spares;
 use crate::component_handling::component_portion::reserve_message;
 use ber_core::OutOfMemory;

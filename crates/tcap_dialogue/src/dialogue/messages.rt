@@ -69,7 +69,8 @@ impl<A: Allocator + Copy> Dialogue<A> {
         ensures still { OnErr result (sink.new.outputs ≡ sink.old.outputs) }
         ensures kept { self.new.standing.identifier ≡ self.old.standing.identifier }
         ensures place { (portion : Option Slice) → PartsLieIn 0x61 context.entry info.entry portion
-            → LieInPlace portion components.entry sink.old.slices → LieInPlace portion components.entry sink.new.slices }
+            → LieInPlace portion components.entry sink.old.slices
+            → LieInPlace portion components.entry sink.new.slices }
     {
         let told = Indication::Continue {
             dialogue: self.identifier,

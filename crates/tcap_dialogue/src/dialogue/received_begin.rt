@@ -1,15 +1,15 @@
 //! A Begin that is received, which creates a dialogue.
 
-// Hints to inline: each step of an engine runs through it; docs/PERF.md says what the whole of it inlined gains.
+// Hints to inline: each Begin that is received runs through it; docs/PERF.md says what the whole of it inlined gains.
 
-ghost use Rattle.std.specs.Prelude.{◌≡◌, ℕ, ◌+◌, ◌≤◌, [], Option, false, length, option_copied, IfOk, IfSome};
+ghost use Rattle.std.specs.Prelude.{◌≡◌, ◌+◌, ◌≤◌, [], Option, false, length, IfOk, IfSome};
 ghost use Rattle.ber_core.specs.ObjectIdentifier.{IsObjectIdentifier};
 ghost use Rattle.ber_core.specs.Place.{Slice};
 ghost use Rattle.tcap_component.specs.ComponentReading.{components_of};
 ghost use Rattle.tcap_dialogue.specs.BeginMemory.{begin_indication_octets, HoldsNothing, IsBeginMemory};
 ghost use Rattle.tcap_dialogue.specs.Beginning.{begun, begun_from};
-ghost use Rattle.tcap_reception.specs.PortionParts.{GivenIn, context_of_portion, info_of_portion, context_slice};
-ghost use Rattle.tcap_primitives.specs.Slices.{AllInPlace, PartsLieIn, LieInPlace};
+ghost use Rattle.tcap_reception.specs.PortionParts.{GivenIn, context_of_portion, info_of_portion};
+ghost use Rattle.tcap_primitives.specs.Slices.{AllInPlace, LieInPlace};
 ghost use Rattle.tcap_dialogue.specs.StepViews.{StepsTo, at_clock, outcome};
 ghost use Rattle.tcap_invocation.specs.Stage.{moment_limit};
 ghost use Rattle.tcap_model.specs.Table.TableMove.{born};
@@ -17,6 +17,7 @@ ghost use Rattle.tcap_model.specs.Table.TableMove.{born};
 use super::Dialogue;
 use super::begin_memory::BeginMemory;
 use super::kept_address::keep_found;
+use super::portion_parts::parts_of;
 use super::spares::Spares;
 use crate::component_handling::component_portion::handle_components;
 use ber_core::OutOfMemory;
@@ -24,21 +25,6 @@ use std::alloc::Allocator;
 use tcap_address::Address;
 use tcap_pdu::TransId;
 use tcap_primitives::{Indication, Output, Sink, SinkKind};
-
-/// The context and the information of an AARQ or an AUDT, empty where there is none.
-#[inline(always)]
-pub(super) fn parts_of<'m>(pdu: Option<(&'m [u8], &'m [u8])>) -> (Option<&'m [u8]>, &'m [u8])
-    ensures context { result.0 ≡ context_slice pdu.entry }
-    ensures given { option_copied result.0 ≡ context_of_portion pdu.entry }
-    ensures info { result.1.now ≡ info_of_portion pdu.entry }
-    ensures place { (tag : ℕ) (portion : Option Slice) → GivenIn tag pdu.entry portion
-        → PartsLieIn tag result.0 result.1 portion }
-{
-    match pdu {
-        None => (None, &[]),
-        Some((context, info)) => (Some(context), info),
-    }
-}
 
 impl<A: Allocator + Copy> Dialogue<A> {
     /// The dialogue with this identifier that a Begin creates at this moment, and what is told.

@@ -1,11 +1,10 @@
-//! An End that is received, and what is told of the invocations that are left where a dialogue ends.
+//! An End that is received (Q.774, Dialogue end).
 
-// Hints to inline: each step of an engine runs through it; docs/PERF.md says what the whole of it inlined gains.
+// Hints to inline: each End that is received runs through it; docs/PERF.md says what the whole of it inlined gains.
 
-ghost use Rattle.std.specs.Prelude.{◌≡◌, ◌+◌, ◌≤◌, ◌++◌, Option, length, true, option_copied, OnOk, OnErr};
+ghost use Rattle.std.specs.Prelude.{◌≡◌, ◌≤◌, Option, true, option_copied, OnOk, OnErr};
 ghost use Rattle.ber_core.specs.Place.{Slice};
-ghost use Rattle.tcap_invocation.specs.Closing.{ended_at};
-ghost use Rattle.tcap_model.specs.Table.TableMove.{ended_told, ended_by, walked_in};
+ghost use Rattle.tcap_model.specs.Table.TableMove.{ended_by, walked_in};
 ghost use Rattle.tcap_primitives.specs.Slices.{LieInPlace, PartsLieIn};
 ghost use Rattle.tcap_dialogue.specs.StepViews.{StepsTo, outcome};
 ghost use Rattle.tcap_invocation.specs.Stage.{moment_limit};
@@ -13,38 +12,12 @@ ghost use Rattle.tcap_model.specs.Procedures.PortionRules.PortionVerdict.{normal
 ghost use Rattle.tcap_model.specs.Procedures.PortionRules.{portion_verdict};
 
 use super::Dialogue;
+use super::ended_invocations::tell_ended;
 use crate::component_handling::component_portion::{handle_in_end, room_for};
 use ber_core::OutOfMemory;
 use std::alloc::Allocator;
-use tcap_invocation::Invocations;
 use tcap_primitives::{Indication, Sink, SinkKind, Why};
 use tcap_reception::{PortionVerdict, judge_portion};
-
-/// The dialogue is over: tells each of its invocations that is Queued or Sent as ended, by number, and
-/// takes it out; there is room for all of them.
-#[inline(always)]
-pub(crate) fn tell_ended<'m, A: Allocator + Copy, K: SinkKind>(
-    dialogue: u32,
-    invocations: &mut Invocations<A>,
-    sink: &mut Sink<'m, A, K>,
-)
-    requires { length (ended_at invocations.old.rows) ≤ sink.old.places }
-    ensures told { sink.new.outputs ≡ sink.old.outputs
-        ++ ended_told dialogue invocations.old }
-    // What is told so has no slices.
-    ensures place { (portion : Option Slice) (components : Slice) → LieInPlace portion components sink.old.slices
-        → LieInPlace portion components sink.new.slices }
-    ensures places { sink.old.places ≤ sink.new.places
-        + length (ended_at invocations.old.rows) }
-{
-    while let Some((number, id)) = invocations.close_one() {
-        sink.tell(Indication::Ended {
-            dialogue,
-            number,
-            id,
-        });
-    }
-}
 
 impl<A: Allocator + Copy> Dialogue<A> {
     /// An End whose dialogue portion is as it should be: it is told with its components, and then the
@@ -65,7 +38,8 @@ impl<A: Allocator + Copy> Dialogue<A> {
         ensures still { OnErr result (sink.new.outputs ≡ sink.old.outputs) }
         ensures kept { self.new.standing.identifier ≡ self.old.standing.identifier }
         ensures place { (portion : Option Slice) → PartsLieIn 0x61 context.entry info.entry portion
-            → LieInPlace portion components.entry sink.old.slices → LieInPlace portion components.entry sink.new.slices }
+            → LieInPlace portion components.entry sink.old.slices
+            → LieInPlace portion components.entry sink.new.slices }
     {
         let told = Indication::End {
             dialogue: self.identifier,

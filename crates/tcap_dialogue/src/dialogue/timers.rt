@@ -15,7 +15,7 @@ ghost use Rattle.tcap_model.specs.Words.Output as model;
 ghost use Rattle.tcap_model.specs.Words.Output.{AbortCause, DialogueIndication};
 
 use super::Dialogue;
-use super::received_end::tell_ended;
+use super::ended_invocations::tell_ended;
 use ber_core::OutOfMemory;
 use std::alloc::Allocator;
 use tcap_invocation::{Expiry, Lapse};

@@ -10,7 +10,7 @@ ghost use Rattle.tcap_model.specs.Procedures.ComponentHandling.{uni_told};
 ghost use Rattle.tcap_model.specs.Words.Output as model;
 ghost use Rattle.tcap_model.specs.Words.Output.{DialogueIndication};
 
-use super::received_begin::parts_of;
+use super::portion_parts::parts_of;
 use crate::component_handling::component_portion::{handle_in_unidirectional, room_for};
 use ber_core::OutOfMemory;
 use std::alloc::Allocator;

@@ -18,7 +18,7 @@ ghost use Rattle.tcap_primitives.specs.RequestViews.{abort_view, reason_view};
 ghost use Rattle.tcap_primitives.specs.SendingViews.{CanSend, sending_view};
 
 use super::sending::{is_filled, send, within_limit_if_any};
-use crate::dialogue::received_end::tell_ended;
+use crate::dialogue::ended_invocations::tell_ended;
 use crate::dialogue::{Dialogue, Step};
 use std::alloc::Allocator;
 use tcap_pdu::is_user_information;
@@ -125,7 +125,8 @@ impl<A: Allocator + Copy> Dialogue<A> {
         within_limit_if_any(self.abort_sending(request))
     }
 
-    /// Judges an abort by the user and writes its message, if it sends one, with places for the invocations that are left.
+    /// Judges an abort by the user and writes its message, if it sends one, with places for the invocations that it
+    /// ends.
     #[inline(always)]
     fn write_abort<'m, K: SinkKind>(
         &self,

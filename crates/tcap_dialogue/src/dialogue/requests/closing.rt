@@ -22,7 +22,7 @@ ghost use Rattle.tcap_primitives.specs.SendingViews.{CanSend, sending_view};
 ghost use Rattle.tcap_reception.specs.StateViews.{is_over};
 
 use super::sending::{frame_length, gives_any, is_name_good, send, within_limit_if_any};
-use crate::dialogue::received_end::tell_ended;
+use crate::dialogue::ended_invocations::tell_ended;
 use crate::dialogue::spares::Spares;
 use crate::dialogue::{Dialogue, Step};
 use std::alloc::Allocator;

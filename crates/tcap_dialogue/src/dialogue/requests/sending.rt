@@ -100,7 +100,8 @@ impl<A: Allocator + Copy> Dialogue<A> {
     pub(super) fn plain_peer(&self) -> Option<&TransId>
         ensures go_on { IfSome result (λ peer. (context : Option (List ℕ)) (info : List ℕ)
             → message_of self.now.standing (Request.dialogue (DialogueRequest.go_on context info))
-            ≡ Some (Message.go_on (local_id self.now.standing.identifier) peer.now None (joined self.now.standing.queue))) }
+            ≡ Some (Message.go_on (local_id self.now.standing.identifier) peer.now None
+            (joined self.now.standing.queue))) }
         ensures finish { IfSome result (λ peer. (context : Option (List ℕ)) (info : List ℕ)
             → message_of self.now.standing (Request.dialogue (DialogueRequest.finish Ending.basic context info))
             ≡ Some (Message.end peer.now None (joined self.now.standing.queue))) }

@@ -18,7 +18,7 @@ ghost use Rattle.tcap_primitives.specs.RequestViews.{uni_view};
 ghost use Rattle.tcap_primitives.specs.SendingViews.{CanSend, sending_view};
 
 use super::sending::{is_name_good, lacks_context, send, within_limit_if_any};
-use crate::dialogue::received_end::tell_ended;
+use crate::dialogue::ended_invocations::tell_ended;
 use crate::dialogue::{Dialogue, Step};
 use std::alloc::Allocator;
 use tcap_address::Address;

@@ -1,7 +1,7 @@
 use Rattle.std.proofs.Common.{rules, ◌≡◌, ◌∙◌, ap, arith, length, to_z, of_z, w8}
 use Rattle.std.proofs.lemmas.Int.{to_z-of_z}
 use Rattle.tcap_dialogue.proofs.WalkLemmas.{tell_next}
-use Rattle.tcap_dialogue.proofs.dialogue.received_end.tell_ended.Goals as goal
+use Rattle.tcap_dialogue.proofs.dialogue.ended_invocations.tell_ended.Goals as goal
 
 pub loop-number-preserved : goal.loop-number-preserved
 loop-number-preserved g c =

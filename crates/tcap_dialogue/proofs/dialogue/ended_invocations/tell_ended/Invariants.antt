@@ -3,7 +3,7 @@ use Rattle.ber_core.specs.Place.{Slice}
 use Rattle.tcap_primitives.specs.Slices.{LieInPlace}
 use Rattle.tcap_invocation.specs.Closing.{ended_at}
 use Rattle.tcap_model.specs.Table.TableMove.{ended_told}
-use Rattle.tcap_dialogue.proofs.dialogue.received_end.tell_ended.Given as goal
+use Rattle.tcap_dialogue.proofs.dialogue.ended_invocations.tell_ended.Given as goal
 
 abbrev pub invariant-loop-number : goal.invariant-loop-number
 invariant-loop-number g l =
