@@ -1,8 +1,8 @@
 //! The requests of component handling (Q.771, Component handling).
 
 // Where a call goes by `request`, the kind of its answer is known: inlined, the match on it folds away. TC-INVOKE and
-// TC-RESULT-L find their dialogue and ask it by calls of their own, for the reason that dialogue_requests.rt gives, and
-// TC-U-CANCEL, so that its answer isn't to be told from those of others.
+// TC-RESULT-L find their dialogue and ask it by calls of their own, for the reason that dialogue_requests.rt gives.
+// TC-U-CANCEL does so too: its call answers the number itself, so nothing asks which kind of answer came.
 
 ghost use Rattle.std.specs.Prelude.{◌≡◌, ◌≤◌, ℕ, nat_eq, true, option_copied, IfSome, OnErr, IfOk};
 ghost use Rattle.std.specs.Map.{lookup};
@@ -253,7 +253,8 @@ fn result_last_in<A: Allocator + Copy>(
     dialogue.result_last_with(&mut table.spares, reject_ms, request)
 }
 
-/// TC-U-CANCEL on the dialogue of an identifier, whose next timer is another then where that of the invocation was it.
+/// TC-U-CANCEL on the dialogue of an identifier, whose timer is then written anew: the one before may have been the
+/// invocation's.
 #[inline(always)]
 fn cancel_in<A: Allocator + Copy>(
     table: &mut Dialogues<A>,

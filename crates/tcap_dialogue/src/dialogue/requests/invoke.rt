@@ -226,8 +226,9 @@ impl<A: Allocator + Copy> Dialogue<A> {
         }
     }
 
-    /// `u_cancel`; a queue that is empty then leaves its memory to others. It takes none
-    /// (Q.771, TC-U-CANCEL; the memory is our own).
+    /// `u_cancel`. If it is accepted and the queue is empty then, the queue leaves its memory to others. It takes no
+    /// memory (Q.771, TC-U-CANCEL; what becomes of the memory is our own).
+    // Nothing is borrowed, so a refusal gives nothing back.
     #[inline(always)]
     pub fn cancel_with(
         &mut self,
@@ -239,7 +240,7 @@ impl<A: Allocator + Copy> Dialogue<A> {
         ensures kept { self.new.standing.identifier ≡ self.old.standing.identifier }
     {
         let number = self.give_up_invocation(request)?;
-        self.leave_empty_queue(spares, false);
+        self.leave_queue(spares);
         Ok(number)
     }
 
