@@ -74,7 +74,8 @@ impl<A: Allocator + Copy> Dialogues<A> {
 
     /// Takes in a dialogue that has no timer yet, under an identifier above all others. All memory that its
     /// place will need is taken here.
-    // As `Table::insert`: a dialogue is 192 octets.
+    // Inlined as `Table::insert` is: a dialogue is 192 octets. `insert_with` takes 8 instructions more, since it looks
+    // up the value that it lends. A Begin goes by it all the same: its dialogue takes the message where it then stands.
     #[inline(always)]
     pub(crate) fn insert(
         &mut self,
@@ -179,6 +180,8 @@ pub(crate) fn settle<A: Allocator + Copy>(
 }
 
 /// The dialogue of an identifier is over (TC-P-ABORT indication); there is room for all that is told.
+// Its memory is given back. Were it left to others, `Dialogue::leave_memory` would have two callers, and not be inlined:
+// 11 instructions more for each dialogue that ends.
 fn end_one<'m, A: Allocator + Copy, K: SinkKind>(
     table: &mut Dialogues<A>,
     identifier: u32,
