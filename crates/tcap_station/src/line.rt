@@ -88,7 +88,7 @@ impl<A: Allocator + Copy> Line<A> {
         if self.taken < self.front.len() || !self.marks.others.is_empty() {
             return None;
         }
-        self.kept_first()
+        self.back.kept(0)
     }
 
     /// Takes away the output that comes next, if one waits: which event it answers.
